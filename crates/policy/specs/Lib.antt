@@ -1,0 +1,9 @@
+pub mod Rules
+pub mod Refusals
+pub mod Views
+pub mod Numbers
+pub mod Layout
+pub mod Policies
+pub mod Read
+pub mod Access
+pub mod Laws

@@ -1,0 +1,8 @@
+// Where a compartment lies in memory.
+
+// Two numbers, its version and its number of rows, then room for its capacity of rows.
+#[derive(Clone, Copy)]
+pub struct Place {
+    pub start: usize,
+    pub capacity: usize,
+}

@@ -1,0 +1,7 @@
+-- A byte past the end is 0.
+use borrow.Author.Needs.{needs}
+use Rattle.std.proofs.shelf.Lists.{getD-past}
+use Rattle.wire.proofs.numbers.byte_at.Needs as need
+
+pub returns-else-place-bytes : need.returns-else-place-bytes
+returns-else-place-bytes c = search (needs, getD-past)

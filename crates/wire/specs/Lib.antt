@@ -1,0 +1,5 @@
+pub mod Bytes
+pub mod NextRequest
+pub mod PolicyNumbers
+pub mod Written
+pub mod Refused

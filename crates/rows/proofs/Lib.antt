@@ -1,6 +1,7 @@
 -- Lemmas on rows, from lists to memory; the last has the laws.
 pub mod Orders
 pub mod Keys
+pub mod Copied
 pub mod Splits
 pub mod Halves
 pub mod Memory

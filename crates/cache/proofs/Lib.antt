@@ -1,0 +1,4 @@
+pub mod Numbers
+pub mod Stored
+pub mod Reading
+pub mod Theorems

@@ -1,0 +1,5 @@
+use Rattle.query.proofs.Told.{costs-are-rows}
+use Rattle.query.proofs.laws.costs_stands.Needs as need
+
+pub returns : need.returns
+returns c = costs-are-rows

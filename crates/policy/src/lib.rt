@@ -18,7 +18,9 @@ mod tables;
 pub use contract::Contract;
 pub use place::Place;
 pub use refusal::Refusal;
+pub use refusal::RefusalDebug;
 pub use refusal::RefusalDisplay;
+pub use refusal::RefusalPartialEq;
 
 // A policy that was judged, with all that a request asks of it worked out.
 #[derive(Clone, Copy)]

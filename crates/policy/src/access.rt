@@ -3,15 +3,15 @@ ghost use mathlib.Core.Bool.{_&&_};
 ghost use mathlib.Core.Path.{_≡_};
 ghost use Prim.Native.Nat.{_<_};
 ghost use lib.Dec.{ltb};
-ghost use lib.ListN.{getD};
-ghost use Rattle.policy.specs.Layout.{starts-from};
 ghost use Rattle.policy.specs.Rules.{sees, flows};
 ghost use Rattle.policy.specs.Views.{view-of};
-ghost use Rattle.policy.specs.Access.{rules-of, capacities-of, contract-at, place-at, cache-at, may-flow, may-see, may-copy, memory-length};
+ghost use Rattle.policy.specs.Access.{rules-of, contract-at, place-at, place-in, written-in, written-at, Inside, cache-at, may-flow, may-see, may-copy, memory-length};
 ghost use Rattle.std.specs.Options.{mapped};
+ghost use Rattle.std.specs.Slices.{found};
 use super::Contract;
 use super::Place;
 use super::Policy;
+use super::Written;
 
 impl Policy {
     // The contract of a user, if they are there.
@@ -79,29 +79,49 @@ impl Policy {
 
     // Where a compartment lies, if it is there.
     pub fn place(&self, compartment: u64) -> Option<Place>
-        ensures { λ r. ⌜ r ≡ place-at (now (self .entry)) compartment ⌝ }
+        ensures value { λ r. ⌜ r ≡ place-at (now (self .entry)) compartment ⌝ }
+        ensures inside { λ r. ⌜ found r (Inside (now (self .entry))) ⌝ }
     {
         if compartment < self.compartments as u64 {
-            let start = self.start(compartment as usize);
-            let capacity = self.capacity(compartment as usize);
-            Some(Place { start, capacity })
+            Some(self.place_in(compartment as usize))
         } else {
             None
         }
     }
 
-    fn start(&self, compartment: usize) -> usize
-        requires { ⌜ compartment < now self .compartments ⌝ }
-        ensures { λ r. ⌜ r ≡ getD (starts-from 0 (capacities-of (now (self .entry)))) compartment 0 ⌝ }
+    // The compartment in which a user writes, if they are there.
+    pub fn written(&self, user: usize) -> Option<Written>
+        ensures value { λ r. ⌜ r ≡ written-at (now (self .entry)) user ⌝ }
+        ensures inside { λ r. ⌜ found r (λ w. Inside (now (self .entry)) (w .place)) ⌝ }
     {
-        self.starts[compartment]
+        if user < self.users {
+            Some(self.written_in(user))
+        } else {
+            None
+        }
     }
 
-    fn capacity(&self, compartment: usize) -> usize
-        requires { ⌜ compartment < now self .compartments ⌝ }
-        ensures { λ r. ⌜ r ≡ getD (capacities-of (now (self .entry))) compartment 0 ⌝ }
+    fn written_in(&self, user: usize) -> Written
+        requires { ⌜ user < now self .users ⌝ }
+        ensures value { λ r. ⌜ r ≡ written-in (now (self .entry)) user ⌝ }
+        ensures inside { λ r. ⌜ Inside (now (self .entry)) (r .place) ⌝ }
     {
-        self.capacities[compartment] as usize
+        let compartment = self.of_user(user).writes() as usize;
+        Written {
+            compartment,
+            place: self.place_in(compartment),
+        }
+    }
+
+    fn place_in(&self, compartment: usize) -> Place
+        requires { ⌜ compartment < now self .compartments ⌝ }
+        ensures value { λ r. ⌜ r ≡ place-in (now (self .entry)) compartment ⌝ }
+        ensures inside { λ r. ⌜ Inside (now (self .entry)) r ⌝ }
+    {
+        Place {
+            start: self.starts[compartment],
+            capacity: self.capacities[compartment] as usize,
+        }
     }
 
     // Where a user's cache begins, if they are there.

@@ -17,6 +17,7 @@ mod tables;
 
 pub use contract::Contract;
 pub use place::Place;
+pub use place::Written;
 pub use refusal::Refusal;
 pub use refusal::RefusalDebug;
 pub use refusal::RefusalDisplay;

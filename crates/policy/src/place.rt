@@ -6,3 +6,10 @@ pub struct Place {
     pub start: usize,
     pub capacity: usize,
 }
+
+// The compartment in which a user writes, and where it lies.
+#[derive(Clone, Copy)]
+pub struct Written {
+    pub compartment: usize,
+    pub place: Place,
+}

@@ -5,4 +5,4 @@ pub mod Views
 pub mod Seen
 pub mod More
 pub mod Back
-pub mod Told
+pub mod Written

@@ -15,7 +15,7 @@ use Rattle.policy.specs.Rules.{has}
 use Rattle.query.proofs.Views.{has-head, has-tail}
 use Rattle.query.specs.declared.Query.the-variants.{Rows, Total, Shared}
 use Rattle.query.specs.Answers.{lists, total, list, answer, lists-of, count-all, sum-all}
-use Rattle.query.specs.More.{Among, distinct, More-seen, Told-behind}
+use Rattle.query.specs.More.{Among, distinct, More-seen, Answered-behind}
 
 -- one compartment less
 abbrev remove : ℕ → List ℕ → List ℕ
@@ -118,5 +118,5 @@ lists-behind : (cs more : List ℕ) (rows : ℕ → List Row) (range : KeyRange)
 lists-behind [] more rows range = refl
 lists-behind (c ∷ cs) more rows range = rw (lists-behind cs more rows range)
 
-pub told-behind : Told-behind
-told-behind cs more rows range = rw (lists-behind cs more rows range)
+pub answered-behind : Answered-behind
+answered-behind cs more rows range = rw (lists-behind cs more rows range)

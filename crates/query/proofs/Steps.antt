@@ -12,9 +12,7 @@ use Rattle.std.proofs.shelf.Lists.{drop-more, drop-map, drop-drop, take-map, ma
 use Rattle.std.proofs.shelf.Tests.{and-parts, leb-true}
 use Rattle.rows.specs.declared.KeyRange.{KeyRange}
 use Rattle.rows.specs.Numbers.{range-part}
-use Rattle.query.specs.Numbers.{count, counts, count-in, cut, lengths, fits, written, shared-outcome, shared-row}
-use Rattle.query.specs.declared.Answered.the-variants.{NotSeen}
-use Rattle.query.specs.declared.Outcome.{Outcome}
+use Rattle.query.specs.Numbers.{count, counts, count-in, cut, lengths, fits, written, unseen, shared-outcome, shared-row}
 use Rattle.std.specs.declared.option.Option.the-variants.{Some}
 
 abbrev pub nothing : RefT (List ℕ)
@@ -28,6 +26,9 @@ fits-gives ps long e =
 -- the part at a place, and those behind it
 pub parts-more : (xs : List (RefT (List ℕ))) (i : ℕ) → i < length xs → drop i (map now xs) ≡ getD xs i nothing .now ∷ drop (i + 1) (map now xs)
 parts-more xs i h = rw (drop-map now i xs, drop-map now (i + 1) xs, drop-more xs i nothing h) refl
+
+pub lengths-more : (xs : List (RefT (List ℕ))) (i : ℕ) → i < length xs → lengths (drop i (map now xs)) ≡ length (getD xs i nothing .now) + lengths (drop (i + 1) (map now xs))
+lengths-more xs i h = ap lengths (parts-more xs i h)
 
 pub parts-push : (xs : List (RefT (List ℕ))) (i : ℕ) → i < length xs → take (i + 1) (map now xs) ≡ take i (map now xs) ++ (getD xs i nothing .now ∷ [])
 parts-push xs i h = rw (take-map now (i + 1) xs, take-map now i xs) (map-more now xs i nothing h)
@@ -56,9 +57,6 @@ body-push cs zs q at k e =
 
 -- a turn that finds q in the part at i
 module _ (range : KeyRange) (xs : List (RefT (List ℕ))) (i : ℕ) (q : List ℕ) (h : i < length xs) (v : q ≡ range-part range (getD xs i nothing .now)) where
-  pub lengths-turn : lengths (drop i (map now xs)) ≡ length (getD xs i nothing .now) + lengths (drop (i + 1) (map now xs))
-  lengths-turn = ap lengths (parts-more xs i h)
-
   done-is : length (take i (map now xs)) ≡ i
   done-is = length-take-le i (map now xs) (simp length-map (omega arith))
 
@@ -113,7 +111,7 @@ two (x ∷ y ∷ []) e = refl
 two (x ∷ y ∷ z ∷ xs) e = absurd (omega arith)
 
 pub not-two : (range : KeyRange) (xs : List (RefT (List ℕ))) (row : List ℕ) (long : ℕ) → (length xs ≡ 2 → ⊥)
-    → (Some (record { answered = NotSeen; examined = 0 }) ≡ shared-outcome range (map now xs) long) × (row ≡ shared-row range (map now xs) row)
+    → (Some unseen ≡ shared-outcome range (map now xs) long) × (row ≡ shared-row range (map now xs) row)
 not-two range [] row long n = (refl, refl)
 not-two range (x ∷ []) row long n = (refl, refl)
 not-two range (x ∷ y ∷ []) row long n = absurd (n refl)

@@ -2,7 +2,7 @@
 use mathlib.Core.Path.{_≡_}
 use mathlib.Core.Bool.{true}
 use mathlib.Core.List.{List, map}
-use Prim.Native.Nat.{ℕ, _+_, _≤_}
+use Prim.Native.Nat.{ℕ, _+_, _*_, _≤_}
 use lib.ListN.{length}
 use Rattle.rows.specs.declared.Row.{Row}
 use Rattle.rows.specs.declared.KeyRange.{KeyRange}
@@ -12,7 +12,7 @@ use Rattle.policy.specs.Rules.{has}
 use Rattle.query.specs.declared.Outcome.{Outcome}
 use Rattle.query.specs.declared.Query.{Query}
 use Rattle.query.specs.declared.Query.the-variants.{Rows, Total, Shared}
-use Rattle.query.specs.Answers.{Answer, lists, total, not-seen, answer, cost, count-all}
+use Rattle.query.specs.Answers.{lists, total, not-seen, answer, cost, count-all}
 use Rattle.query.specs.Looks.{looked-at, needed-for}
 use Rattle.query.specs.Numbers.{outcome, row-after, read-answer}
 use Rattle.std.specs.declared.option.Option.the-variants.{Some}
@@ -39,6 +39,13 @@ Answers-told = (capacity : ℕ → ℕ) (view : List ℕ) (rows : ℕ → List R
     → ((c : ℕ) → has view c ≡ true → Kept (rows c) (capacity c))
     → ((n : ℕ) → needed-for capacity view query ≡ Some n → n ≤ length row)
     → (told : Outcome) × Tells view rows query row told
+
+-- A ROW AS LONG AS NEEDED IS ENOUGH, whatever the parts hold, if none is longer than its compartment's capacity.
+abbrev pub Never-refused : Type 0
+Never-refused = (capacity : ℕ → ℕ) (view : List ℕ) (part : ℕ → List ℕ) (query : Query) (long : ℕ) → length view ≤ 16
+    → ((c : ℕ) → has view c ≡ true → length (part c) ≤ 2 * capacity c)
+    → ((n : ℕ) → needed-for capacity view query ≡ Some n → n ≤ long)
+    → (told : Outcome) × (outcome query (map part (looked-at view query)) long ≡ Some told)
 
 -- ONLY WHAT IS SEEN IS LENT.
 abbrev pub Lent-is-seen : Type 0

@@ -36,6 +36,6 @@ abbrev pub More-seen : Type 0
 More-seen = (cs ds : List ℕ) → ((c : ℕ) → has cs c ≡ true → has ds c ≡ true) → (rows : ℕ → List Row) (range : KeyRange) → More-told cs ds rows range
 
 -- What is seen behind is told behind.
-abbrev pub Told-behind : Type 0
-Told-behind = (cs more : List ℕ) (rows : ℕ → List Row) (range : KeyRange) →
+abbrev pub Answered-behind : Type 0
+Answered-behind = (cs more : List ℕ) (rows : ℕ → List Row) (range : KeyRange) →
     answer (cs ++ more) rows (Rows range) ≡ lists (lists-of rows range cs ++ lists-of rows range more)

@@ -1,7 +1,7 @@
 -- What a query makes of the parts that it is lent and of the answer row, for every content, of rows that rise or not.
 use mathlib.Core.Bool.{Bool, cond, _&&_}
 use mathlib.Core.List.{List, [], _∷_, _++_, map}
-use Prim.Native.Nat.{ℕ, _+_, _-_, _/_, _%_, _^_}
+use Prim.Native.Nat.{ℕ, _+_, _/_, _%_, _^_}
 use lib.Dec.{leb}
 use lib.ListN.{length, drop, take, replicate}
 use Rattle.rows.specs.declared.Row.{Row}
@@ -64,13 +64,21 @@ written-list rs row = written (length rs ∷ []) (flat rs) row
 abbrev pub rows-outcome : KeyRange → List (List ℕ) → Outcome
 rows-outcome range parts = record { answered = In-rows (length parts); examined = count-in range parts }
 
+abbrev pub total-outcome : KeyRange → List (List ℕ) → Outcome
+total-outcome range parts = record { answered = In-total (count-in range parts) (amount-in range parts % 2 ^ 64); examined = count-in range parts }
+
+abbrev pub list-outcome : KeyRange → List ℕ → List ℕ → Outcome
+list-outcome range a b = record { answered = In-shared (length (common (range-part range a) b)); examined = count range a + length b / 2 }
+
+abbrev pub unseen : Outcome
+unseen = record { answered = NotSeen; examined = 0 }
+
 -- shared: two parts are lent, or none if they are not both seen
 abbrev pub shared-outcome : KeyRange → List (List ℕ) → ℕ → Option Outcome
-shared-outcome range [] long = Some (record { answered = NotSeen; examined = 0 })
-shared-outcome range (a ∷ []) long = Some (record { answered = NotSeen; examined = 0 })
-shared-outcome range (a ∷ b ∷ []) long =
-    cond (fits (a ∷ []) long) (Some (record { answered = In-shared (length (common (range-part range a) b)); examined = count range a + length b / 2 })) None
-shared-outcome range (a ∷ b ∷ c ∷ ps) long = Some (record { answered = NotSeen; examined = 0 })
+shared-outcome range [] long = Some unseen
+shared-outcome range (a ∷ []) long = Some unseen
+shared-outcome range (a ∷ b ∷ []) long = cond (fits (a ∷ []) long) (Some (list-outcome range a b)) None
+shared-outcome range (a ∷ b ∷ c ∷ ps) long = Some unseen
 
 abbrev pub shared-row : KeyRange → List (List ℕ) → List ℕ → List ℕ
 shared-row range [] row = row
@@ -81,8 +89,7 @@ shared-row range (a ∷ b ∷ c ∷ ps) row = row
 -- what is answered from the parts that the query looks at, with a row of some length; refused where that is too short
 abbrev pub outcome : Query → List (List ℕ) → ℕ → Option Outcome
 outcome (Rows range) parts long = cond (fits parts long) (Some (rows-outcome range parts)) None
-outcome (Total range) parts long =
-    cond (fits parts long) (Some (record { answered = In-total (count-in range parts) (amount-in range parts % 2 ^ 64); examined = count-in range parts })) None
+outcome (Total range) parts long = cond (fits parts long) (Some (total-outcome range parts)) None
 outcome (Shared a b range) parts long = shared-outcome range parts long
 
 -- what the row holds afterwards

@@ -1,9 +1,10 @@
 // What answers and costs are: each function carries theorems, and does nothing else.
-ghost use Rattle.query.specs.Laws.{Answers-told, Lent-is-seen, Costs-are-rows};
-ghost use Rattle.query.specs.More.{Only-seen, More-seen, Told-behind};
+ghost use Rattle.query.specs.Laws.{Answers-told, Never-refused, Lent-is-seen, Costs-are-rows};
+ghost use Rattle.query.specs.More.{Only-seen, More-seen, Answered-behind};
 
 pub fn answers_stands()
-    ensures { λ _. ⌜ Answers-told ⌝ }
+    ensures told { λ _. ⌜ Answers-told ⌝ }
+    ensures always { λ _. ⌜ Never-refused ⌝ }
 {}
 
 pub fn costs_stands()
@@ -17,5 +18,5 @@ pub fn seen_stands()
 
 pub fn more_stands()
     ensures more { λ _. ⌜ More-seen ⌝ }
-    ensures behind { λ _. ⌜ Told-behind ⌝ }
+    ensures behind { λ _. ⌜ Answered-behind ⌝ }
 {}

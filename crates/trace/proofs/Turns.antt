@@ -8,7 +8,7 @@ use native.Mathlib.Omega.{arith}
 use lib.Dec.{eqb}
 use lib.ListN.{length, take, drop}
 use Rattle.policy.specs.Rules.{Rules}
-use Rattle.std.proofs.shelf.Lists.{append-assoc, append-nil, drop-all, drop-drop, length-append, take-rest}
+use Rattle.std.proofs.shelf.Lists.{append-assoc, append-nil, drop-all, drop-drop, length-append, length-drop, take-rest}
 use Rattle.std.proofs.shelf.Tests.{cond-true, cond-false, eq-eqb, ne-eqb, cases-lt}
 use Rattle.std.specs.declared.option.Option.the-variants.{Some, None}
 use Rattle.trace.specs.Played.{turn, taken, refused, behind, lines, ended}
@@ -62,6 +62,9 @@ pub takes-some : (n k : ℕ) (x : Next) → Takes n x → Some k ≡ taken x →
 takes-some n k (next.Request r length) t e = let s : k ≡ length = cc in omega arith
 takes-some n k (next.Fault user place length) t e = let s : k ≡ length = cc in omega arith
 takes-some n k (next.End place) t e = let z : _≡_ {A = ℕ} 0 1 = cc in omega arith
+
+pub some-left : (bytes : List ℕ) (at : ℕ) → at < length bytes → 0 < length (drop at bytes)
+some-left bytes at h = rw (length-drop at bytes) (omega arith)
 
 pub front-fits : (xs ys zs : List ℕ) → zs ≡ xs ++ ys → length xs ≤ length zs
 front-fits xs ys zs e = omega (arith, ap length e ∙ length-append xs ys)

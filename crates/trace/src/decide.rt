@@ -8,7 +8,7 @@ use query::Query;
 use request::Request;
 
 // Leaves open what only the store can tell.
-pub fn decide(policy: &Policy, request: Request) -> Words
+pub(crate) fn decide(policy: &Policy, request: Request) -> Words
     ensures { λ r. ⌜ r ≡ decided (rules-of (now (policy .entry))) request ⌝ }
 {
     match request {

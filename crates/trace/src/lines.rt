@@ -21,7 +21,7 @@ use std::fmt::Write;
 use wire::Next;
 
 // Plays the requests in the bytes; says why the trace was broken off, if it was.
-pub fn play_requests(
+pub(crate) fn play_requests(
     text: &mut String,
     policy: &Policy,
     bytes: &[u8],

@@ -13,7 +13,7 @@ use policy::Refusal;
 use std::alloc::AllocError;
 
 // In a trace capacities are at most 64.
-pub fn read_policy(bytes: &[u8]) -> Result<Policy, Refusal>
+pub(crate) fn read_policy(bytes: &[u8]) -> Result<Policy, Refusal>
     ensures refused { λ r. ⌜ why r ≡ judged 64 (policy-of (now (bytes .entry))) ⌝ }
     ensures reads { λ r. ⌜ made r (λ p. Reads (policy-of (now (bytes .entry))) p) ⌝ }
 {
@@ -23,7 +23,7 @@ pub fn read_policy(bytes: &[u8]) -> Result<Policy, Refusal>
 }
 
 // Plays the requests behind the policy.
-pub fn play_behind(
+pub(crate) fn play_behind(
     text: &mut String,
     policy: &Policy,
     bytes: &[u8],

@@ -1,5 +1,6 @@
-use Rattle.query.proofs.Told.{answers-told}
+-- The theorems that the contract names.
+use Rattle.query.proofs.Written.{answers-told, never-refused}
 use Rattle.query.proofs.laws.answers_stands.Needs as need
 
 pub returns : need.returns
-returns c = answers-told
+returns c = record { told = answers-told; always = never-refused }

@@ -1,4 +1,5 @@
-use Rattle.query.proofs.Told.{costs-are-rows}
+-- The theorems that the contract names.
+use Rattle.query.proofs.Written.{costs-are-rows}
 use Rattle.query.proofs.laws.costs_stands.Needs as need
 
 pub returns : need.returns

@@ -1,5 +1,6 @@
+-- The theorems that the contract names.
 use Rattle.query.proofs.Seen.{only-seen}
-use Rattle.query.proofs.Told.{lent-is-seen}
+use Rattle.query.proofs.Written.{lent-is-seen}
 use Rattle.query.proofs.laws.seen_stands.Needs as need
 
 pub returns : need.returns

@@ -1,16 +1,14 @@
-use mathlib.Core.Path.{_≡_, refl}
-use mathlib.Core.List.{map}
-use Prim.Native.Nat.{_+_, _-_}
+-- A turn writes one count and the rows of one part.
+use mathlib.Core.Path.{_≡_}
 use native.Mathlib.Omega.{arith}
-use borrow.Author.Needs.{needs}
 use denote.Ref.{now}
-use lib.ListN.{length, drop, take}
-use Rattle.query.proofs.Steps.{lengths-turn, heads-turn, body-turn, at-turn, count-turn, all-taken}
+use lib.ListN.{length}
+use Rattle.query.proofs.Steps.{lengths-more, heads-turn, body-turn, at-turn, count-turn, all-taken}
 use Rattle.query.proofs.parts.collect.Needs as need
 
 pub part-copy-from-slice-end : need.part-copy-from-slice-end
 part-copy-from-slice-end c =
-    let e = lengths-turn (c .args .range) (c .args .parts .now) (c .loop-i .i) (c .range-found .result .now) (c .loop-i-test .taken) (c .range-found .ensures .value) in
+    let e = lengths-more (c .args .parts .now) (c .loop-i .i) (c .loop-i-test .taken) in
     omega arith
 
 pub loop-i-again : need.loop-i-again
@@ -22,7 +20,7 @@ loop-i-again c =
     let h = c .loop-i-test .taken in
     let v = c .range-found .ensures .value in
     let inv = c .loop-i .inv in
-    let e = lengths-turn range xs i q h v in (
+    let e = lengths-more xs i h in (
       heads-turn range xs i q h v (c .loop-i .header) (c .args .header .now) (omega arith) (inv .0),
       body-turn range xs i q h v (c .loop-i .body) (c .args .body .now) _ (c .loop-i .at) _ (inv .1) (inv .2) (c .copy-from-slice .ensures .after) (omega arith),
       at-turn range xs i q h v (c .loop-i .at) (inv .2),

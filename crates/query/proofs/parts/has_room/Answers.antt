@@ -1,27 +1,23 @@
+-- A turn takes the next part off the room.
 use mathlib.Core.List.{map}
-use mathlib.Core.Path.{_≡_, ap}
-use Prim.Native.Nat.{_+_}
+use mathlib.Core.Path.{_≡_}
 use native.Mathlib.Omega.{arith}
 use denote.Ref.{now}
-use lib.ListN.{length, drop, getD}
+use lib.ListN.{drop}
 use Rattle.std.proofs.shelf.Lists.{at-drop-all, length-map}
 use Rattle.std.proofs.shelf.Ways.{tells}
 use Rattle.query.specs.Numbers.{lengths}
-use Rattle.query.proofs.Steps.{nothing, parts-more}
+use Rattle.query.proofs.Steps.{lengths-more}
 use Rattle.query.proofs.parts.has_room.Needs as need
 
 pub returns-then-parts-i : need.returns-then-parts-i
 returns-then-parts-i c =
-    let xs = c .args .parts .now in
-    let e : lengths (drop (c .loop-i .i) (map now xs)) ≡ length (getD xs (c .loop-i .i) nothing .now) + lengths (drop (c .loop-i .i + 1) (map now xs)) =
-    ap lengths (parts-more xs (c .loop-i .i) (c .loop-i-test .taken)) in
+    let e = lengths-more (c .args .parts .now) (c .loop-i .i) (c .loop-i-test .taken) in
     grind (arith, tells)
 
 pub loop-i-again : need.loop-i-again
 loop-i-again c =
-    let xs = c .args .parts .now in
-    let e : lengths (drop (c .loop-i .i) (map now xs)) ≡ length (getD xs (c .loop-i .i) nothing .now) + lengths (drop (c .loop-i .i + 1) (map now xs)) =
-    ap lengths (parts-more xs (c .loop-i .i) (c .loop-i-test .taken)) in
+    let e = lengths-more (c .args .parts .now) (c .loop-i .i) (c .loop-i-test .taken) in
     omega arith
 
 pub returns : need.returns

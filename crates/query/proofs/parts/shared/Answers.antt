@@ -1,4 +1,4 @@
-use mathlib.Core.Path.{_≡_}
+-- Two parts, or any other number of them.
 use lib.ListN.{length}
 use Rattle.query.proofs.Steps.{two, not-two}
 use Rattle.query.proofs.parts.shared.Needs as need

@@ -1,3 +1,4 @@
+-- A turn adds up one part.
 use mathlib.Core.List.{map}
 use mathlib.Core.Path.{_≡_, ap, _∙_}
 use Prim.Native.Nat.{_+_, _/_, _%_, _^_}
@@ -8,13 +9,13 @@ use Rattle.rows.specs.Rows.{sum}
 use Rattle.rows.specs.Halving.{rows-of}
 use Rattle.rows.specs.Numbers.{range-part}
 use Rattle.std.proofs.shelf.Lists.{at-drop-all, length-map}
-use Rattle.query.specs.Numbers.{lengths, count, count-in, amount-in}
-use Rattle.query.proofs.Steps.{nothing, parts-more, lengths-turn}
+use Rattle.query.specs.Numbers.{count, count-in, amount-in}
+use Rattle.query.proofs.Steps.{nothing, parts-more, lengths-more}
 use Rattle.query.proofs.parts.total.Needs as need
 
 pub add-rows : need.add-rows
 add-rows c =
-    let e = lengths-turn (c .args .range) (c .args .parts .now) (c .loop-i .i) (c .range .result .now) (c .loop-i-test .taken) (c .range .ensures .value) in
+    let e = lengths-more (c .args .parts .now) (c .loop-i .i) (c .loop-i-test .taken) in
     let r : c .total-part .result .rows ≡ length (c .range .result .now) / 2 = ap (λ t. t .rows) (c .total-part .ensures) in
     omega arith
 
@@ -26,7 +27,7 @@ loop-i-again c =
     let p = getD xs i nothing .now in
     let m = parts-more xs i (c .loop-i-test .taken) in
     let v = c .range .ensures .value in
-    let e : lengths (drop i (map now xs)) ≡ length p + lengths (drop (i + 1) (map now xs)) = ap lengths m in
+    let e = lengths-more xs i (c .loop-i-test .taken) in
     let f : count-in range (drop i (map now xs)) ≡ count range p + count-in range (drop (i + 1) (map now xs)) = ap (count-in range) m in
     let g : amount-in range (drop i (map now xs)) ≡ sum (rows-of (range-part range p)) + amount-in range (drop (i + 1) (map now xs)) = ap (amount-in range) m in
     let r : c .total-part .result .rows ≡ count range p = ap (λ t. t .rows) (c .total-part .ensures) ∙ ap (λ q. length q / 2) v in

@@ -1,3 +1,4 @@
+-- The header and what stands behind it make the row.
 use mathlib.Core.List.{map}
 use mathlib.Core.Path.{_≡_, sym, _∙_}
 use native.Mathlib.Omega.{arith}

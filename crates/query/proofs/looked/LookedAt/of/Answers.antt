@@ -1,3 +1,4 @@
+-- The copied places are the compartments.
 use mathlib.Core.Path.{_∙_, ap}
 use lib.ListN.{length}
 use Rattle.std.proofs.shelf.Lists.{take-at}

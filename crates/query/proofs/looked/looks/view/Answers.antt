@@ -1,3 +1,4 @@
+-- A view is short by its contract.
 use Rattle.query.proofs.Views.{view-few}
 use Rattle.query.proofs.looked.looks.view.Needs as need
 

@@ -1,9 +1,9 @@
 -- What the code tells on rows that rise is the model's answer, at the model's cost.
 use mathlib.Core.Path.{_≡_, refl, ap, sym, _∙_}
 use mathlib.Core.Logic.{inl, inr}
-use mathlib.Core.Bool.{Bool, true, false, cond, _&&_}
-use mathlib.Core.List.{List, [], _∷_, _++_, map}
-use Prim.Native.Nat.{ℕ, _+_, _*_, _/_, _%_, _^_, _≤_, _<_}
+use mathlib.Core.Bool.{true, false, _&&_}
+use mathlib.Core.List.{List, [], _∷_, map}
+use Prim.Native.Nat.{ℕ, _+_, _*_, _/_, _%_, _^_, _≤_}
 use native.Mathlib.Omega.{arith}
 use lib.Dec.{eqb, leb}
 use lib.ListN.{length}
@@ -18,13 +18,11 @@ use Rattle.rows.proofs.Places.{length-flat, flat-append, rows-of-flat}
 use Rattle.rows.proofs.Images.{merged-also-in}
 use Rattle.rows.proofs.Theorems.{range-is-rows-in, range-rises}
 use Rattle.policy.specs.Rules.{has}
-use Rattle.query.specs.declared.Answered.the-variants.{Rows as In-rows, Total as In-total, Shared as In-shared, NotSeen}
-use Rattle.query.specs.declared.Outcome.{Outcome}
 use Rattle.query.specs.declared.Query.the-variants.{Rows, Total, Shared}
-use Rattle.query.specs.Answers.{lists, total, list, lists-of, count-all, sum-all}
+use Rattle.query.specs.Answers.{lists, list, lists-of, count-all, sum-all}
 use Rattle.query.specs.Looks.{room}
-use Rattle.query.specs.Numbers.{count, counts, count-in, amount-in, cut, common, lengths, fits, rows-outcome}
-use Rattle.query.specs.Laws.{Kept, parts-of, Tells, Answers-told, Lent-is-seen, Costs-are-rows}
+use Rattle.query.specs.Numbers.{count, counts, count-in, amount-in, cut, common, lengths, fits, rows-outcome, total-outcome, list-outcome, unseen}
+use Rattle.query.specs.Laws.{Kept, parts-of, Answers-told, Never-refused, Lent-is-seen, Costs-are-rows}
 use Rattle.query.proofs.Views.{has-head, has-tail}
 use Rattle.query.proofs.Back.{all, lists-back, list-back}
 
@@ -87,25 +85,47 @@ module _ (capacity : ℕ → ℕ) (rows : ℕ → List Row) (range : KeyRange) w
       let f = first c cs k .few in
       omega arith
 
-  lengths-small : (cs : List ℕ) → Holds cs → lengths (parts-of rows cs) ≤ 2 * room capacity cs
-  lengths-small [] k = omega arith
-  lengths-small (c ∷ cs) k =
-      let i = lengths-small cs (others c cs k) in
-      let l = length-flat (rows c) in
-      let w = first c cs k .within in
-      omega arith
-
 fits-from : (ps : List (List ℕ)) (long : ℕ) → length ps ≤ 16 → 32 + lengths ps ≤ long → fits ps long ≡ true
 fits-from ps long h k = and-from (leb (length ps) 16) (leb (32 + lengths ps) long) (le-leb _ _ h) (le-leb _ _ k)
+
+-- parts within their capacities fit into a row that is as long as needed
+module _ (capacity : ℕ → ℕ) (part : ℕ → List ℕ) where
+  lengths-small : (cs : List ℕ) → ((c : ℕ) → has cs c ≡ true → length (part c) ≤ 2 * capacity c) → lengths (map part cs) ≤ 2 * room capacity cs
+  lengths-small [] h = omega arith
+  lengths-small (c ∷ cs) h =
+      let i = lengths-small cs (λ (d : ℕ) (k : has cs d ≡ true). h d (has-tail c d cs k)) in
+      let l = h c (has-head c cs) in
+      omega arith
+
+  all-fit : (cs : List ℕ) (long : ℕ) → length cs ≤ 16 → ((c : ℕ) → has cs c ≡ true → length (part c) ≤ 2 * capacity c) → 32 + 2 * room capacity cs ≤ long
+      → fits (map part cs) long ≡ true
+  all-fit cs long few h l =
+      let n : length (map part cs) ≡ length cs = length-map cs part in
+      let s = lengths-small cs h in
+      fits-from (map part cs) long (omega arith) (omega arith)
+
+  one-fits : (c long : ℕ) → length (part c) ≤ 2 * capacity c → 32 + 2 * capacity c ≤ long → fits (part c ∷ []) long ≡ true
+  one-fits c long h l = fits-from (part c ∷ []) long (omega arith) (omega arith)
+
+pub never-refused : Never-refused
+never-refused capacity view part (Rows range) long few h l = (rows-outcome range (map part view), rw (all-fit capacity part view long few h (l _ refl)) refl)
+never-refused capacity view part (Total range) long few h l = (total-outcome range (map part view), rw (all-fit capacity part view long few h (l _ refl)) refl)
+never-refused capacity view part (Shared a b range) long few h l = elim (cases-bool (has view a && has view b)) [
+  | inl e ↦
+      let seen = and-parts (has view a) (has view b) e in
+      (list-outcome range (part a) (part b), rw (e, one-fits capacity part a long (h a (seen .0)) (l (32 + 2 * capacity a) (rw e refl))) refl)
+  | inr e ↦ (unseen, rw e refl)
+]
+
+within-twice : (capacity : ℕ) (rs : List Row) → Kept rs capacity → length (flat rs) ≤ 2 * capacity
+within-twice capacity rs k = let l = length-flat rs in omega arith
 
 pub answers-told : Answers-told
 unfolding Holds
 answers-told capacity view rows (Rows range) row few kept long =
     let ps = parts-of rows view in
+    let f = all-fit capacity (λ c. flat (rows c)) view (length row) few (λ c h. within-twice (capacity c) (rows c) (kept c h)) (long _ refl) in
     let n : length ps ≡ length view = length-map view (λ c. flat (rows c)) in
-    let s = lengths-small capacity rows range view kept in
-    let l = long _ refl in
-    let f = fits-from ps (length row) (omega arith) (omega arith) in
     let m : length (counts range ps) ≡ length ps = length-map ps (count range) in (
       rows-outcome range ps,
       record {
@@ -116,15 +136,12 @@ answers-told capacity view rows (Rows range) row few kept long =
     )
 answers-told capacity view rows (Total range) row few kept long =
     let ps = parts-of rows view in
-    let n : length ps ≡ length view = length-map view (λ c. flat (rows c)) in
-    let s = lengths-small capacity rows range view kept in
-    let l = long _ refl in
-    let f = fits-from ps (length row) (omega arith) (omega arith) in
+    let f = all-fit capacity (λ c. flat (rows c)) view (length row) few (λ c h. within-twice (capacity c) (rows c) (kept c h)) (long _ refl) in
     let c = count-in-is capacity rows range view kept in
     let b = sum-all-small capacity rows range view kept in
     let a = amount-in-is capacity rows range view kept in
     let e : amount-in range ps % 2 ^ 64 ≡ sum-all (lists-of rows range view) = omega arith in (
-      record { answered = In-total (count-in range ps) (amount-in range ps % 2 ^ 64); examined = count-in range ps },
+      total-outcome range ps,
       record { returned = rw f refl; right = rw (c, e) refl; examined = c },
     )
 answers-told capacity view rows (Shared a b range) row few kept long = elim (cases-bool (has view a && has view b)) [
@@ -133,20 +150,17 @@ answers-told capacity view rows (Shared a b range) row few kept long = elim (cas
       let ka = kept a (seen .0) in
       let kb = kept b (seen .1) in
       let m = common (range-part range (flat (rows a))) (flat (rows b)) in
-      let l = long (32 + 2 * capacity a) (rw e refl) in
-      let la = length-flat (rows a) in
       let lb = length-flat (rows b) in
-      let w = ka .within in
-      let f = fits-from (flat (rows a) ∷ []) (length row) (omega arith) (omega arith) in
+      let f = one-fits capacity (λ c. flat (rows c)) a (length row) (within-twice (capacity a) (rows a) ka) (long (32 + 2 * capacity a) (rw e refl)) in
       let i = count-is range (rows a) (ka .rises) in (
-        record { answered = In-shared (length m); examined = count range (flat (rows a)) + length (flat (rows b)) / 2 },
+        list-outcome range (flat (rows a)) (flat (rows b)),
         record {
           returned = rw (e, f) refl;
           right = rw (e, f) (ap list (list-back (length m ∷ []) row m (omega arith) ∙ common-is range (rows a) (ka .rises) (rows b) (kb .rises)));
           examined = rw e (omega arith);
         },
       )
-  | inr e ↦ (record { answered = NotSeen; examined = 0 }, record { returned = rw e refl; right = rw e refl; examined = rw e refl })
+  | inr e ↦ (unseen, record { returned = rw e refl; right = rw e refl; examined = rw e refl })
 ]
 
 pub lent-is-seen : Lent-is-seen

@@ -1,0 +1,4 @@
+-- From memory to the model.
+pub mod Parts
+pub mod Changing
+pub mod Following

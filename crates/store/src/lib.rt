@@ -1,12 +1,14 @@
 // The store: requests on lent memory, as a policy allows them.
 ghost use mathlib.Core.Path.{_≡_};
-ghost use Rattle.store.specs.Calls.{opened-told, opened, wrote-told, wrote, deleted-told, deleted};
+ghost use Rattle.store.specs.Calls.{opened-told, opened, wrote-told, wrote, deleted-told, deleted, copied-told, copied};
 
+mod copying;
 pub mod laws;
 
 use policy::Policy;
 use policy::Refusal;
 use policy::Written;
+use rows::KeyRange;
 use rows::Row;
 
 // Memory of the length that the policy asks for becomes empty; what lies behind is not touched.
@@ -54,4 +56,34 @@ pub fn delete(policy: &Policy, memory: &mut [u64], user: usize, key: u32) -> Res
     let start = place.start;
     let end = start + (2 + 2 * place.capacity);
     compartment::delete(&mut memory[start..end], start, compartment, key)
+}
+
+// The rows of a range of a compartment that the user sees come to where the user writes, one by one: all of them, or none.
+pub fn copy(
+    policy: &Policy,
+    memory: &mut [u64],
+    user: usize,
+    compartment: usize,
+    range: KeyRange,
+) -> Result<(), Refusal>
+    ensures told { λ r. ⌜ r ≡ copied-told (now (policy .entry)) user compartment range (now (memory .entry)) ⌝ }
+    ensures after { λ _. ⌜ now (memory .exit) ≡ copied (now (policy .entry)) user compartment range (now (memory .entry)) ⌝ }
+{
+    let long = memory.len();
+    if long < policy.memory_length() {
+        return Err(Refusal::OutOfBounds { place: long });
+    }
+    if !policy.may_copy(user, compartment as u64) {
+        return Err(Refusal::NoFlow { compartment });
+    }
+    let Some(written) = policy.written(user) else {
+        return Err(Refusal::NoFlow { compartment });
+    };
+    let Some(from) = policy.place(compartment as u64) else {
+        return Err(Refusal::NoFlow { compartment });
+    };
+    if written.compartment == compartment {
+        return copying::into_itself(memory, written);
+    }
+    copying::between(memory, from, written, range)
 }

@@ -3,3 +3,4 @@ pub mod Within
 pub mod Tied
 pub mod Refused
 pub mod Resting
+pub mod Staying

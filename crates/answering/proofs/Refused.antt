@@ -20,7 +20,7 @@ use Rattle.query.specs.declared.Query.the-variants.{Rows, Total, Shared}
 use Rattle.query.specs.Numbers.{fits, outcome, row-after}
 use Rattle.cache.specs.declared.Kept.{Kept}
 use Rattle.cache.specs.declared.Kept.the-variants.{Rows as kept-rows, Total as kept-total, Shared as kept-shared, NotSeen as kept-none}
-use Rattle.answering.specs.Asked.{versions-in, parts-in, told-again, recalled, recalled-row, kept-by, worked-out, worked-row, told-by, memory-by, row-by, found, refusal-of, unless, checked-by, checked, asked-told, asked-memory, asked-row}
+use Rattle.answering.specs.Asked.{versions-in, told-again, recalled, recalled-row, kept-by, worked-out, worked-row, told-by, memory-by, row-by, found, refusal-of, unless, checked-by, checked}
 use Rattle.answering.specs.Tie.{Refusals-leave}
 use Rattle.std.specs.Options.{okOr}
 use Rattle.std.specs.declared.option.Option.{Option}

@@ -1,18 +1,17 @@
 -- Nothing but what the user sees, and their cache, shows in what they are told.
 use mathlib.Core.Path.{_≡_, refl, sym, ap, subst, _∙_}
 use mathlib.Core.Logic.{inl, inr}
-use mathlib.Core.Bool.{Bool, true, false, cond}
+use mathlib.Core.Bool.{Bool, true, cond}
 use mathlib.Core.List.{List, [], _∷_}
-use Prim.Native.Nat.{ℕ, _≤_, _<_}
-use native.Mathlib.Omega.{arith}
+use Prim.Native.Nat.{ℕ}
 use lib.Dec.{ltb}
-use lib.ListN.{length, getD, take}
+use lib.ListN.{length, getD}
 use Rattle.std.proofs.shelf.Lists.{getD-take}
 use Rattle.std.proofs.shelf.Tests.{cases-lt, lt-ltb, le-ltb}
 use Rattle.policy.specs.declared.contract.Contract.{Contract}
 use Rattle.policy.specs.declared.Policy.{Policy}
 use Rattle.policy.specs.declared.refusal.Refusal.{Refusal}
-use Rattle.policy.specs.declared.refusal.Refusal.the-variants.{OutOfBounds, NoUser, ShortRow}
+use Rattle.policy.specs.declared.refusal.Refusal.the-variants.{OutOfBounds, ShortRow}
 use Rattle.policy.specs.Access.{rules-of, contract-at, cache-at, memory-length}
 use Rattle.policy.specs.Rules.{has, sees}
 use Rattle.policy.specs.Views.{view-of, nobody}
@@ -26,14 +25,14 @@ use Rattle.query.proofs.Written.{lent-is-seen}
 use Rattle.cache.specs.declared.Kept.{Kept}
 use Rattle.cache.specs.Places.{look-up}
 use Rattle.answering.specs.Places.{version-at, part-at, fault-at, lower, damaged}
-use Rattle.answering.specs.Asked.{versions-in, parts-in, cache-part, recalled, recalled-row, worked-out, worked-row, told-by, row-by, found, refusal-by, refusal-of, unless, checked-by, checked, asked-told, asked-row}
+use Rattle.answering.specs.Asked.{versions-in, parts-in, cache-part, recalled, recalled-row, worked-out, worked-row, told-by, row-by, found, refusal-by, refusal-of, unless, checked-by, checked}
 use Rattle.answering.specs.Alike.{Alike, Rest-does-not-show}
 use Rattle.answering.proofs.Tied.{never-some}
 use Rattle.std.specs.Options.{okOr}
 use Rattle.std.specs.declared.option.Option.{Option}
 use Rattle.std.specs.declared.option.Option.the-variants.{Some, None}
 use Rattle.std.specs.declared.result.Result.{Result}
-use Rattle.std.specs.declared.result.Result.the-variants.{Ok, Err}
+use Rattle.std.specs.declared.result.Result.the-variants.{Err}
 
 same-damaged : (p : Policy) (memory other cs : List ℕ) → ((c : ℕ) → has cs c ≡ true → fault-at p memory c ≡ fault-at p other c) → damaged p memory cs ≡ damaged p other cs
 same-damaged p memory other [] h = refl

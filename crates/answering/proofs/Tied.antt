@@ -2,7 +2,7 @@
 use mathlib.Core.Path.{_≡_, refl, sym, ap, subst, _∙_}
 use mathlib.Core.Logic.{inl, inr}
 use mathlib.Core.Bool.{Bool, true, false, cond, _&&_}
-use mathlib.Core.List.{List, [], _∷_, _++_, map}
+use mathlib.Core.List.{List, [], _∷_, _++_}
 use Prim.Native.Nat.{ℕ, _+_, _-_, _*_, _≤_, _<_}
 use native.Mathlib.Omega.{arith}
 use lib.Dec.{ltb, leb}
@@ -23,7 +23,7 @@ use Rattle.query.specs.declared.Answered.the-variants.{Rows as In-rows, Total a
 use Rattle.query.specs.declared.Outcome.{Outcome}
 use Rattle.query.specs.declared.Query.{Query}
 use Rattle.query.specs.declared.Query.the-variants.{Rows, Total, Shared}
-use Rattle.query.specs.Answers.{Answer, answer, cost}
+use Rattle.query.specs.Answers.{Answer, answer}
 use Rattle.query.specs.Laws.{parts-of, Tells as Right}
 use Rattle.query.specs.Looks.{looked-at, needed-for, room}
 use Rattle.query.specs.Numbers.{outcome, row-after, read-answer}
@@ -38,7 +38,7 @@ use Rattle.cache.proofs.Stored.{look-up-flat, find-is-exact, keep-held}
 use Rattle.request.specs.declared.Request.the-variants.{Query as Ask}
 use Rattle.model.specs.Model.{State, Response, refused, answered, response, step, lend, needed, capacities, keep, recall, answering, entry, versions-seen, look-up as found-among}
 use Rattle.answering.specs.Places.{version-at, part-at, fault-at, lower, damaged}
-use Rattle.answering.specs.Asked.{versions-in, parts-in, cache-part, with-cache, kept-of, unexamined, recalled, recalled-row, kept-by, worked-out, worked-row, told-by, memory-by, row-by, found, refusal-by, refusal-of, unless, checked-by, checked, asked-told, asked-memory, asked-row}
+use Rattle.answering.specs.Asked.{versions-in, parts-in, cache-part, with-cache, kept-of, recalled, recalled-row, kept-by, worked-out, worked-row, told-by, memory-by, row-by, found, refusal-by, refusal-of, unless, checked-by, checked, asked-told, asked-memory, asked-row}
 use Rattle.answering.specs.Tie.{Holds, Tells, As-model, Queries-as-model}
 use Rattle.std.specs.Options.{okOr}
 use Rattle.std.specs.declared.option.Option.{Option}
@@ -51,12 +51,12 @@ use Rattle.std.specs.declared.result.Result.the-variants.{Ok, Err}
 lower-none : (a b : Option ℕ) → a ≡ None → b ≡ None → lower a b ≡ None
 lower-none a b e f = rw (e, f) refl
 
-none-damaged : (p : Policy) (memory cs : List ℕ) → ((c : ℕ) → has cs c ≡ true → fault-at p memory c ≡ None) → damaged p memory cs ≡ None
+pub none-damaged : (p : Policy) (memory cs : List ℕ) → ((c : ℕ) → has cs c ≡ true → fault-at p memory c ≡ None) → damaged p memory cs ≡ None
 none-damaged p memory [] h = refl
 none-damaged p memory (c ∷ cs) h =
     lower-none (fault-at p memory c) (damaged p memory cs) (h c (has-head c cs)) (none-damaged p memory cs (λ d k. h d (has-tail c d cs k)))
 
-same-room : (r : Rules) (cs : List ℕ) → capacities r cs ≡ room (r .capacity) cs
+pub same-room : (r : Rules) (cs : List ℕ) → capacities r cs ≡ room (r .capacity) cs
 same-room r [] = refl
 same-room r (c ∷ cs) = ap (λ n. r .capacity c + n) (same-room r cs)
 
@@ -84,7 +84,7 @@ refusal-is r user (Shared a b range) long = elim (cases-bool (has (r .view user)
   | inr e ↦ rw e (none-needed long)
 ]
 
-same-some : (a b : ℕ) → Some a ≡ Some b → a ≡ b
+pub same-some : (a b : ℕ) → Some a ≡ Some b → a ≡ b
 same-some a b e = cc
 
 pub never-some : {A : Type 0} (a : A) → None ≡ Some a → ⊥
@@ -176,7 +176,7 @@ recalled-right (kept-total rows amount) told again row a e = refl
 recalled-right kept-shared told again row a e = ap (λ (b : Answer). answered b 0) (sym e)
 recalled-right kept-none told again row a e = refl
 
-same-cache : (at : ℕ) (memory : List ℕ) → memory ≡ with-cache at (cache-part at memory) memory
+pub same-cache : (at : ℕ) (memory : List ℕ) → memory ≡ with-cache at (cache-part at memory) memory
 same-cache at memory =
     sym (ap (λ (xs : List ℕ). take at memory ++ xs) (take-append-drop 192 (drop at memory)) ∙ take-append-drop at memory)
 

@@ -1,17 +1,13 @@
 -- Compartments and caches lie within memory.
-use mathlib.Core.Path.{_≡_, refl, sym, _∙_}
+use mathlib.Core.Path.{_≡_, refl}
 use mathlib.Core.Logic.{inl, inr}
-use mathlib.Core.Bool.{true}
 use mathlib.Core.List.{List}
-use Prim.Native.Nat.{ℕ, _+_, _-_, _*_, _≤_, _<_}
+use Prim.Native.Nat.{ℕ, _+_, _-_, _≤_}
 use native.Mathlib.Omega.{arith}
-use lib.Dec.{ltb}
-use lib.ListN.{length, getD, take, drop}
+use lib.ListN.{take, drop}
 use borrow.Rule.Slice.PartMut.{putMid}
 use Rattle.std.proofs.shelf.Tests.{cases-lt, lt-ltb, le-ltb}
-use Rattle.policy.specs.Access.{place-at, cache-at, memory-length, capacities-of}
-use Rattle.policy.specs.Layout.{starts-from, end-from, size}
-use Rattle.policy.specs.declared.place.Place.{Place}
+use Rattle.policy.specs.Access.{place-at, cache-at, memory-length}
 use Rattle.policy.specs.declared.Policy.{Policy}
 use Rattle.policy.proofs.Proved.{compartments-apart}
 use Rattle.answering.specs.Places.{Inside}

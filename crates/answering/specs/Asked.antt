@@ -1,7 +1,7 @@
 -- What a query tells and what it leaves in memory and in the answer row, for every content of both.
 use mathlib.Core.Bool.{cond}
 use mathlib.Core.List.{List, _++_, map}
-use Prim.Native.Nat.{ℕ, _+_}
+use Prim.Native.Nat.{ℕ}
 use lib.Dec.{ltb}
 use lib.ListN.{length, take, drop}
 use Rattle.policy.specs.declared.contract.Contract.{Contract}

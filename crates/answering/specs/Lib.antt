@@ -3,3 +3,4 @@ pub mod Places
 pub mod Asked
 pub mod Tie
 pub mod Alike
+pub mod Stay

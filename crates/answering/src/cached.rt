@@ -22,6 +22,7 @@ pub(crate) fn cache_in(policy: &Policy, user: usize) -> Option<usize>
     policy.cache(user)
 }
 
+// What the cache at a place has for a query with these versions.
 pub(crate) fn look_up(memory: &[u64], at: usize, query: Query, versions: &[u64]) -> Option<Kept>
     requires { ⌜ at + 192 ≤ length (now memory) ⌝ }
     ensures { λ r. ⌜ r ≡ look-up query (now (versions .entry)) (cache-part at (now (memory .entry))) ⌝ }
@@ -29,6 +30,7 @@ pub(crate) fn look_up(memory: &[u64], at: usize, query: Query, versions: &[u64])
     cache::look_up(&memory[at..at + SIZE], query, versions)
 }
 
+// Keeps an answer in the cache at a place.
 pub(crate) fn keep(memory: &mut [u64], at: usize, query: Query, versions: &[u64], kept: Kept)
     requires { ⌜ at + 192 ≤ length (now memory) ⌝ }
     ensures { λ _. ⌜ now (memory .exit) ≡ with-cache at (keep-in query (now (versions .entry)) kept (cache-part at (now (memory .entry)))) (now (memory .entry)) ⌝ }

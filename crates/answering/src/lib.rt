@@ -18,7 +18,8 @@ mod places;
 mod views;
 mod worked;
 
-// Answers a user's query. Every refusal leaves memory and the answer row as they were.
+// Answers a user's query. Refused are, in this order: memory that is too short, a user who isn't there, a row that is too short,
+// and what is out of bounds in the user's view. Every refusal leaves memory and the answer row as they were.
 pub fn ask(
     policy: &Policy,
     memory: &mut [u64],
@@ -109,6 +110,7 @@ fn by_versions(
     }
 }
 
+// Works the answer out and keeps it.
 fn not_found(
     policy: &Policy,
     memory: &mut [u64],

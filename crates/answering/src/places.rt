@@ -19,6 +19,7 @@ fn place_in(policy: &Policy, compartment: u64) -> Option<Place>
     policy.place(compartment)
 }
 
+// How often a compartment was changed.
 pub(crate) fn version_at(policy: &Policy, memory: &[u64], compartment: u64) -> u64
     requires { ⌜ memory-length (now policy) ≤ length (now memory) ⌝ }
     ensures { λ r. ⌜ r ≡ version-at (now (policy .entry)) (now (memory .entry)) compartment ⌝ }

@@ -21,6 +21,7 @@ pub(crate) fn view(contract: &Contract) -> &[u64]
     contract.view()
 }
 
+// The first numbers of some.
 pub(crate) fn first(numbers: &[u64], count: usize) -> &[u64]
     requires { ⌜ count ≤ length (now numbers) ⌝ }
     ensures { λ r. ⌜ now r ≡ take count (now (numbers .entry)) ⌝ }
@@ -51,6 +52,7 @@ pub(crate) fn lowest_fault(policy: &Policy, memory: &[u64], view: &[u64]) -> Opt
     lowest
 }
 
+// The lower of two places, where there are two.
 fn lower(a: Option<usize>, b: Option<usize>) -> Option<usize>
     ensures { λ r. ⌜ r ≡ lower a b ⌝ }
 {

@@ -60,6 +60,7 @@ pub(crate) fn recall(
     }
 }
 
+// Works rows out again, which examines none anew.
 fn again(
     policy: &Policy,
     memory: &[u64],

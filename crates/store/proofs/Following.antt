@@ -30,7 +30,7 @@ use Rattle.store.specs.Simulation.{Holds, as-result, cache-start, Open-holds, 
 use Rattle.store.proofs.Changing.{change-holds}
 
 -- a change that may be refused in two ways, as the calls return it
-as-change : (fits lasts : Bool) (why last : Refusal) →
+pub as-change : (fits lasts : Bool) (why last : Refusal) →
     as-result (cond fits (cond lasts done (refused last)) (refused why)) ≡ cond fits (cond lasts (Ok tt) (Err last)) (Err why)
 as-change true true why last = refl
 as-change true false why last = refl
@@ -104,4 +104,6 @@ open-holds p memory long =
           let size : end q - q .start ≡ 2 + 2 * q .capacity = omega arith in
           rw (zeros (q .start) (end q - q .start) all rest (omega (arith, compartments-apart p c h .0)), size) (empty-holds (q .capacity));
       caches = λ u h. zeros (cache-start p u) 192 all rest (omega arith);
+      few = λ u. omega arith;
+      of-view = λ u. tt;
     })

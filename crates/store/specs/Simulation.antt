@@ -3,7 +3,9 @@ use mathlib.Core.Path.{_≡_}
 use mathlib.Core.List.{List, []}
 use Prim.Native.Nat.{ℕ, _+_, _*_, _≤_, _<_}
 use lib.ListN.{length, take, drop}
-use Rattle.cache.specs.Entries.{held}
+use Rattle.answering.specs.Asked.{asked-told, asked-memory, asked-row}
+use Rattle.answering.specs.Tie.{Tells}
+use Rattle.cache.specs.Entries.{held, Of-view}
 use Rattle.compartment.specs.Holding.{Brought}
 use Rattle.compartment.specs.Holding as compartment
 use Rattle.compartment.specs.Parts.{limit}
@@ -12,12 +14,14 @@ use Rattle.policy.specs.Access.{rules-of, capacities-of, place-in, memory-lengt
 use Rattle.policy.specs.Layout.{end-from}
 use Rattle.policy.specs.declared.Policy.{Policy}
 use Rattle.policy.specs.declared.refusal.Refusal.{Refusal}
-use Rattle.request.specs.declared.Request.the-variants.{Write, Delete}
+use Rattle.query.specs.declared.Query.{Query}
+use Rattle.request.specs.declared.Request.the-variants.{Write, Delete, Copy, Query as Ask}
+use Rattle.rows.specs.declared.KeyRange.{KeyRange}
 use Rattle.rows.specs.declared.Row.{Row}
 use Rattle.std.specs.declared.result.Result.{Result}
 use Rattle.std.specs.declared.result.Result.the-variants.{Ok, Err}
 use Rattle.store.specs.Memory.{part}
-use Rattle.store.specs.Calls.{opened, wrote-told, wrote, deleted-told, deleted}
+use Rattle.store.specs.Calls.{opened, wrote-told, wrote, deleted-told, deleted, copied-told, copied}
 
 -- where a user's cache begins
 abbrev pub cache-start : Policy → ℕ → ℕ
@@ -29,6 +33,8 @@ pub record Holds (p : Policy) (s : State) (memory : List ℕ) : Type 0 where
   pub compartments : (c : ℕ) → c < p .compartments →
       compartment.Holds (rules-of p .capacity c) (s .version c) (s .rows c) (part (place-in p c) memory)
   pub caches : (u : ℕ) → u < p .users → take 192 (drop (cache-start p u) memory) ≡ held 8 (s .cache u)
+  pub few : (u : ℕ) → length (s .cache u) ≤ 8
+  pub of-view : (u : ℕ) → Of-view (length (rules-of p .view u)) (s .cache u)
 
 -- a response to a change, as the calls return it
 abbrev pub as-result : Response → Result (Unit {0}) Refusal
@@ -50,6 +56,20 @@ abbrev pub Delete-follows : Type 0
 Delete-follows =
     (p : Policy) (s : State) (memory : List ℕ) (user lent key : ℕ) → Holds p s memory →
     Follows p s (lend (Delete user key) lent) (deleted-told p user key memory) (deleted p user key memory)
+
+abbrev pub Copy-follows : Type 0
+Copy-follows =
+    (p : Policy) (s : State) (memory : List ℕ) (user lent c : ℕ) (range : KeyRange) → Holds p s memory →
+    Follows p s (lend (Copy user c range) lent) (copied-told p user c range memory) (copied p user c range memory)
+
+-- a query tells what the model tells, with a row of any length and content, and leaves memory that holds the model's next state
+pub record Query-follows (p : Policy) (s : State) (memory row : List ℕ) (user : ℕ) (query : Query) : Type 0 where
+  pub tells : Tells (asked-told p memory (length row) user query) (asked-row p memory row user query)
+      (response (rules-of p) limit s (lend (Ask user query) (length row)))
+  pub holds : Holds p (step (rules-of p) limit s (lend (Ask user query) (length row))) (asked-memory p memory (length row) user query)
+
+abbrev pub Ask-follows : Type 0
+Ask-follows = (p : Policy) (s : State) (memory row : List ℕ) (user : ℕ) (query : Query) → Holds p s memory → Query-follows p s memory row user query
 
 -- memory that was opened holds the empty state
 abbrev pub Open-holds : Type 0

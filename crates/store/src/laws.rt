@@ -1,5 +1,5 @@
 // The calls follow the model: each function carries theorems, and does nothing else.
-ghost use Rattle.store.specs.Simulation.{Open-holds, Write-follows, Delete-follows};
+ghost use Rattle.store.specs.Simulation.{Open-holds, Write-follows, Delete-follows, Copy-follows, Ask-follows};
 
 pub fn open_stands()
     ensures { λ _. ⌜ Open-holds ⌝ }
@@ -11,4 +11,12 @@ pub fn write_stands()
 
 pub fn delete_stands()
     ensures { λ _. ⌜ Delete-follows ⌝ }
+{}
+
+pub fn copy_stands()
+    ensures { λ _. ⌜ Copy-follows ⌝ }
+{}
+
+pub fn ask_stands()
+    ensures { λ _. ⌜ Ask-follows ⌝ }
 {}

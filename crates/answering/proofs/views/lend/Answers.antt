@@ -1,4 +1,4 @@
-use mathlib.Core.List.{map, _∷_, []}
+use mathlib.Core.List.{_∷_, []}
 use mathlib.Core.Path.{_≡_}
 use native.Mathlib.Omega.{arith}
 use denote.Ref.{now}

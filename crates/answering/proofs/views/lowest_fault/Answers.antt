@@ -4,7 +4,6 @@ use native.Mathlib.Omega.{arith}
 use lib.ListN.{length, getD, drop}
 use Rattle.std.proofs.shelf.Lists.{at-drop-more, at-drop-all}
 use Rattle.answering.specs.Places.{damaged, lower, fault-at}
-use Rattle.std.specs.declared.option.Option.the-variants.{None}
 use Rattle.answering.proofs.views.lowest_fault.Needs as need
 
 pub loop-i-holds : need.loop-i-holds

@@ -1,6 +1,6 @@
 use mathlib.Core.Path.{_≡_}
 use native.Mathlib.Omega.{arith}
-use lib.ListN.{length, take}
+use lib.ListN.{length}
 use Rattle.std.proofs.shelf.Lists.{take-more-set, map-more, take-all}
 use Rattle.answering.specs.Places.{version-at}
 use Rattle.answering.proofs.views.read_versions.Needs as need

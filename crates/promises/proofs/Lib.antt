@@ -1,0 +1,2 @@
+-- From calls on memory to the model.
+pub mod Proved

@@ -1,0 +1,3 @@
+-- What a reader opens first.
+pub mod Traces
+pub mod Promises

@@ -1,4 +1,5 @@
 // Examples of policies, of the store's calls and of traces, run.
+#![tactic(auto)]
 
 #[cfg(test)]
 mod policies;

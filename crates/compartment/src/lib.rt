@@ -1,4 +1,5 @@
 // One compartment's part of memory: its version, its number of rows, and room for its capacity of rows of two numbers.
+#![tactic(auto)]
 ghost use Rattle.std.specs.Prelude.{◌≡◌, ◌+◌, ◌*◌, ◌^◌, ◌<◌, ◌≤◌, not, ◌++◌, length, take, drop, is_some, IfOk, slice_index, slice_set};
 ghost use Rattle.rows.specs.Numbers.{put_count, put_into, delete_count, delete_from};
 ghost use Rattle.compartment.specs.Parts.{checked, rows_part, write_told, write_after, delete_told, delete_after, raise_told, raise_after};

@@ -1,4 +1,5 @@
 // Plays a trace from standard input: a line for each request, and one on standard error where it was refused.
+#![tactic(auto)]
 use anyhow::anyhow;
 use std::io::Read;
 

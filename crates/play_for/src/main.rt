@@ -1,4 +1,5 @@
 // Plays a trace from standard input purged for one user: their lines, and one on standard error where it was refused.
+#![tactic(auto)]
 use anyhow::anyhow;
 use std::env;
 use std::io::Read;

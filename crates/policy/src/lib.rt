@@ -1,4 +1,6 @@
 // Who sees what, who writes where, and where rows may flow: a policy is read and judged once.
+#![tactic(auto)]
+
 ghost use Rattle.std.specs.Prelude.{◌≡◌, ◌≤◌, true, length, take};
 ghost use Rattle.policy.specs.Layout.{starts_from, end_from};
 ghost use Rattle.policy.specs.Policies.{flow_table, all_valid, all_within};

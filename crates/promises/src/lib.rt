@@ -1,4 +1,5 @@
 // What the store promises of every list of requests: each function carries a theorem, and does nothing else.
+#![tactic(auto)]
 ghost use Rattle.promises.specs.Promises.{Noninterference, TwoTraces, FollowsTheModel, RightAnswers};
 
 pub mod laws;

@@ -1,4 +1,5 @@
 // Queries over what a user sees, their answers, and the rows that answering examines.
+#![tactic(auto)]
 use rows::KeyRange;
 
 pub mod laws;

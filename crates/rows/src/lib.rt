@@ -1,4 +1,6 @@
 // Rows in lent memory, by rising key: found by halving, put, deleted, cut to a key range, added up, compared with others.
+#![tactic(auto)]
+
 ghost use Rattle.std.specs.Prelude.{◌≡◌, ◌+◌, ◌*◌, ◌/◌, ◌%◌, ◌^◌, ◌≤◌, length, drop, IfSome};
 ghost use Rattle.rows.specs.Rows.{sum};
 ghost use Rattle.rows.specs.Halving.{position, rows_of};
@@ -226,7 +228,7 @@ mod tests {
         assert_eq!(rt; find(&rows, 6), None);
         assert_eq!(rt; find(&rows[..2], 5), None);
         assert_eq!(rt; position(&rows, 1 << 32), 3);
-        assert!(rt; range(&rows, KeyRange { from: 3, to: 5 }) == [3, 30, 5, 50]);
+        assert!(rt; range(&rows, KeyRange { from: 3, to: 5 }) == [3, 30, 5, 50].as_slice());
         assert!(rt; range(&rows, KeyRange { from: 4, to: 4 }).is_empty());
         assert!(rt; range(&rows, KeyRange { from: 5, to: 3 }).is_empty());
         let all = KeyRange {

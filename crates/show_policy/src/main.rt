@@ -1,4 +1,5 @@
 // Shows the policy of a trace from standard input: as a table, or with the argument `dot` as a graph for Graphviz.
+#![tactic(auto)]
 use anyhow::anyhow;
 use policy::Policy;
 use std::alloc::{AllocError, Global};

@@ -1,4 +1,5 @@
 // Writes the trace that the text on standard input says to standard output; of bad text a line on standard error names the line.
+#![tactic(auto)]
 use anyhow::anyhow;
 use std::io::{Read, Write};
 

@@ -2,17 +2,17 @@
 use Rattle.std.proofs.Common.{sym, arith}
 use Rattle.rows.proofs.Passes.{passed_one, passed_none, passed_all}
 use Rattle.rows.proofs.merge.Goals as goal
-use Rattle.rows.proofs.merge.Goals.{then-stands-at, else-stands-at}
+use Rattle.rows.proofs.merge.Goals.{then-stands_at, else-stands_at}
 
 pub loop-i-preserved : goal.loop-i-preserved
 loop-i-preserved c =
-    elim c.if-stands-at.branch [
-      | then-stands-at w ↦
+    elim c.if-stands_at.branch [
+      | then-stands_at w ↦
           rw (w.written-is, w.out-is)
-          (passed_one _ _ _ _ _ _ _ c.loop-i.invariant _ (omega arith) c.skip-next.ensures.within c.skip-next.ensures.value (omega arith) (sym w.if-stands-at.ensures))
-      | else-stands-at w ↦
+          (passed_one _ _ _ _ _ _ _ c.loop-i.invariant _ (omega arith) c.skip-next.ensures.within c.skip-next.ensures.value (omega arith) (sym w.if-stands_at.ensures))
+      | else-stands_at w ↦
           rw (w.written-is, w.out-is)
-          (passed_none _ _ _ _ _ _ _ c.loop-i.invariant _ (omega arith) c.skip-next.ensures.within c.skip-next.ensures.value (sym w.if-stands-at.ensures))
+          (passed_none _ _ _ _ _ _ _ c.loop-i.invariant _ (omega arith) c.skip-next.ensures.within c.skip-next.ensures.value (sym w.if-stands_at.ensures))
     ]
 
 pub returns : goal.returns

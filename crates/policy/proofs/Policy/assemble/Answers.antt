@@ -17,8 +17,8 @@ place-caches-requires c =
       bounded = rw (cut, c.capacities-capacities.ensures.read) (capacities_within xs c.requires.fit);
     }
 
-pub invariant-of-result : goal.invariant-of-result
-invariant-of-result c =
+pub invariant_of-result : goal.invariant_of-result
+invariant_of-result c =
     let xs = c.args.numbers.now in
     let caps = c.capacities-capacities in
     let cut : compartments_in xs - 0 ≡ compartments_in xs = omega arith in
@@ -28,8 +28,19 @@ invariant-of-result c =
     let begins = rw (cut, long) at c.place-caches.ensures.begins in
     let ends = rw cut at c.place-caches.ensures.ends in
     let near = rw (sym ends) at (end_within (take (compartments_in xs) caps.result) (omega arith) within) in
-    let flowing = rw cut_users at c.fill-flows.ensures in
-    (c.requires.stand.long, (caps.ensures.long, (c.requires.fit.users, (c.requires.fit.compartments, (c.requires.stand.valid, (within, (begins, (ends, (near, (flowing, tt))))))))))
+    let flowing = rw cut_users at c.fill_flows.ensures in
+    record {
+      contracts_long = c.requires.stand.long;
+      capacities_long = caps.ensures.long;
+      few_users = c.requires.fit.users;
+      few_compartments = c.requires.fit.compartments;
+      valid = c.requires.stand.valid;
+      bounded = within;
+      placed = begins;
+      behind = ends;
+      near = near;
+      flowing = flowing;
+    }
 
 pub returns : goal.returns
 returns c = record { users = refl; compartments = refl; contracts = c.requires.stand.say; capacities = c.capacities-capacities.ensures.read }

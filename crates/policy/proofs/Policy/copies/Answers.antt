@@ -8,5 +8,5 @@ pub flow-requires : goal.flow-requires
 flow-requires c =
     let p = c.args.self.now in
     let u = c.args.user in
-    let saw : sees (rules_of p) u c.args.compartment ≡ true = rw (sym c.of-user-contract.ensures.view) (sym c.sees.ensures ∙ c.if-sees.true) in
-    record { a = omega (arith, seen_there p u c.args.compartment c.requires saw); b = omega (arith, written_there p u c.requires, c.writes.ensures, c.of-user-contract.ensures.writes) }
+    let saw : sees (rules_of p) u c.args.compartment ≡ true = rw (sym c.of_user-contract.ensures.view) (sym c.sees.ensures ∙ c.if-sees.true) in
+    record { a = omega (arith, seen_there p u c.args.compartment c.requires saw); b = omega (arith, written_there p u c.requires, c.writes.ensures, c.of_user-contract.ensures.writes) }

@@ -8,13 +8,13 @@ use Rattle.policy.proofs.judge.contracts.Goals as goal
 pub returns-in-Some : goal.returns-in-Some
 returns-in-Some c =
     let xs = c.args.numbers.now in
-    let same = views_alike xs c.of-users-contracts.result (omega arith) c.of-users-contracts.ensures.say (users_in xs - 0) (omega arith) in
+    let same = views_alike xs c.of_users-contracts.result (omega arith) c.of_users-contracts.ensures.say (users_in xs - 0) (omega arith) in
     record { refused = ap (option_map (λ user. BadView user)) (c.in-Some.ensures ∙ same); stand = tt }
 
 pub returns-in-None : goal.returns-in-None
 returns-in-None c =
     let xs = c.args.numbers.now in
-    let cs = c.of-users-contracts in
+    let cs = c.of_users-contracts in
     let same = views_alike xs cs.result (omega arith) cs.ensures.say (users_in xs - 0) (omega arith) in
     let none = c.in-None.ensures ∙ same in
     record {

@@ -4,13 +4,13 @@ use Rattle.policy.specs.Numbers.{at_fault, places}
 use Rattle.policy.proofs.Judging.{first_here, first_on, two_places}
 use Rattle.policy.proofs.judge.lowest_fault.Goals as goal
 
-pub returns-then-not-has-count : goal.returns-then-not-has-count
-returns-then-not-has-count c =
+pub returns-then-not-has_count : goal.returns-then-not-has_count
+returns-then-not-has_count c =
     let h = two_places c.args.numbers.now in
     sym (first_here (at_fault c.args.most c.args.numbers.now) 0 (places c.args.numbers.now) (omega arith) (grind (arith, nat_tests)))
 
-pub returns-then-not-has-count-2 : goal.returns-then-not-has-count-2
-returns-then-not-has-count-2 c =
+pub returns-then-not-has_count-2 : goal.returns-then-not-has_count-2
+returns-then-not-has_count-2 c =
     let h = two_places c.args.numbers.now in
     let f = at_fault c.args.most c.args.numbers.now in
     let n = places c.args.numbers.now in

@@ -8,6 +8,6 @@ returns c =
     let at : ℕ = 2 + 18 * c.args.users in
     let n = c.args.compartments in
     let same : at + n - at ≡ n = omega arith in
-    let copied = c.copy-from-slice.ensures.after ∙ ap (λ (k : ℕ). take k (drop at xs)) same in
+    let copied = c.copy_from_slice.ensures.after ∙ ap (λ (k : ℕ). take k (drop at xs)) same in
     let long : length (take n (drop at xs)) ≡ n = simp (length-take, length-drop) (omega arith) in
-    record { long = simp (length-append, length-drop) (omega (arith, ap length copied, long)); read = take_at c.copy-from-slice.new.self _ n (ap length copied ∙ long) ∙ copied }
+    record { long = simp (length-append, length-drop) (omega (arith, ap length copied, long)); read = take_at c.copy_from_slice.new.self _ n (ap length copied ∙ long) ∙ copied }

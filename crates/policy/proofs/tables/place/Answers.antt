@@ -4,14 +4,14 @@ use Rattle.policy.specs.Layout.{starts_from, size}
 use Rattle.policy.proofs.Steps.{within_at, starts_more, end_more}
 use Rattle.policy.proofs.tables.place.Goals as goal
 
-pub overflow-mul-end : goal.overflow-mul-end
-overflow-mul-end c = let h = within_at 4096 c.args.capacities.now c.loop-i.i (omega arith) c.requires.bounded in search rules
+pub overflow_mul-end : goal.overflow_mul-end
+overflow_mul-end c = let h = within_at 4096 c.args.capacities.now c.loop-i.i (omega arith) c.requires.bounded in search rules
 
-pub overflow-add-end : goal.overflow-add-end
-overflow-add-end c = let h = within_at 4096 c.args.capacities.now c.loop-i.i (omega arith) c.requires.bounded in search rules
+pub overflow_add-end : goal.overflow_add-end
+overflow_add-end c = let h = within_at 4096 c.args.capacities.now c.loop-i.i (omega arith) c.requires.bounded in search rules
 
-pub overflow-add-end-in-loop-i : goal.overflow-add-end-in-loop-i
-overflow-add-end-in-loop-i c = let h = within_at 4096 c.args.capacities.now c.loop-i.i (omega arith) c.requires.bounded in search rules
+pub overflow_add-end-in-loop-i : goal.overflow_add-end-in-loop-i
+overflow_add-end-in-loop-i c = let h = within_at 4096 c.args.capacities.now c.loop-i.i (omega arith) c.requires.bounded in search rules
 
 pub loop-i-preserved : goal.loop-i-preserved
 loop-i-preserved c =

@@ -8,6 +8,6 @@ returns c =
     let at : ℕ = 2 + 18 * c.args.user + 1 in
     let seen = get_or xs (2 + 18 * c.args.user) 0 in
     let same : at + seen - at ≡ seen = omega arith in
-    let copied = c.copy-from-slice.ensures.after ∙ ap (λ (k : ℕ). take k (drop at xs)) same in
+    let copied = c.copy_from_slice.ensures.after ∙ ap (λ (k : ℕ). take k (drop at xs)) same in
     let long : length (take seen (drop at xs)) ≡ seen = simp (length-take, length-drop) (omega arith) in
-    record { view = take_at c.copy-from-slice.new.self _ seen (ap length copied ∙ long) ∙ copied; writes = refl }
+    record { view = take_at c.copy_from_slice.new.self _ seen (ap length copied ∙ long) ∙ copied; writes = refl }

@@ -5,4 +5,4 @@ pub loop-user-preserved : goal.loop-user-preserved
 loop-user-preserved c =
     below_more _ _
     (λ u h. let ne : u ≢ c.loop-user.user = omega arith in rw get_or-set_other (c.loop-user.invariant u h))
-    (let h : c.loop-user.user < length c.loop-user.contracts = omega arith in rw get_or-set_same c.of-user.ensures)
+    (let h : c.loop-user.user < length c.loop-user.contracts = omega arith in rw get_or-set_same c.of_user.ensures)

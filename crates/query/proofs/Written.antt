@@ -15,7 +15,7 @@ use Rattle.query.specs.declared.Query.TheVariants.{Rows, Total, Shared}
 use Rattle.query.specs.Answers.{lists, list, lists_of, count_all, sum_all}
 use Rattle.query.specs.Looks.{room}
 use Rattle.query.specs.Numbers.{count, counts, count_in, amount_in, cut, common, lengths, fits, all_rows, written, rows_outcome, total_outcome, list_outcome, unseen}
-use Rattle.query.specs.Laws.{Kept, parts_of, AnswersTold, NeverRefused, LentIsSeen, CostsAreRows}
+use Rattle.query.specs.Laws.{Kept, parts_of, AnswersTold, RowsHoldAnswers, NeverRefused, LentIsSeen, CostsAreRows}
 use Rattle.query.proofs.Views.{has_head, has_tail}
 use Rattle.query.proofs.Back.{lists_back, list_back}
 
@@ -113,22 +113,24 @@ never_refused capacity view part (Shared a b range) long few h l = elim (cases_B
 within_twice : (capacity : ℕ) (rs : List Row) → Kept rs capacity → length (flat rs) ≤ 2 * capacity
 within_twice capacity rs k = let l = length_flat rs in omega arith
 
-pub answers_told : AnswersTold
+pub rows_hold_answers : RowsHoldAnswers
 unfolding Holds
-answers_told capacity view rows (Rows range) row few kept long =
+rows_hold_answers capacity view rows (Rows range) row few kept long =
     let ps = parts_of rows view in
     let f = all_fit capacity (λ c. flat (rows c)) view (length row) few (λ c h. within_twice (capacity c) (rows c) (kept c h)) (long _ refl) in
     let n : length ps ≡ length view = length-map view (λ c. flat (rows c)) in
     let m : length (counts range ps) ≡ length ps = length-map ps (count range) in (
       rows_outcome range ps,
       record {
-        returned = rw f refl;
-        right = rw f (ap lists (lists_back (counts range ps) (cut range ps) row (omega arith) (lists_of rows range view) (length ps) (sym m) (counts_are capacity rows range view kept) (cut_is capacity rows range view kept)));
-        examined = count_in_is capacity rows range view kept;
+        tells = record {
+          returned = rw f refl;
+          right = rw f (ap lists (lists_back (counts range ps) (cut range ps) row (omega arith) (lists_of rows range view) (length ps) (sym m) (counts_are capacity rows range view kept) (cut_is capacity rows range view kept)));
+          examined = count_in_is capacity rows range view kept;
+        };
         left = rw (f, counts_are capacity rows range view kept, cut_is capacity rows range view kept) refl;
       },
     )
-answers_told capacity view rows (Total range) row few kept long =
+rows_hold_answers capacity view rows (Total range) row few kept long =
     let ps = parts_of rows view in
     let f = all_fit capacity (λ c. flat (rows c)) view (length row) few (λ c h. within_twice (capacity c) (rows c) (kept c h)) (long _ refl) in
     let c = count_in_is capacity rows range view kept in
@@ -136,9 +138,9 @@ answers_told capacity view rows (Total range) row few kept long =
     let a = amount_in_is capacity rows range view kept in
     let e : amount_in range ps % 2 ^ 64 ≡ sum_all (lists_of rows range view) = omega arith in (
       total_outcome range ps,
-      record { returned = rw f refl; right = rw (c, e) refl; examined = c; left = refl },
+      record { tells = record { returned = rw f refl; right = rw (c, e) refl; examined = c }; left = refl },
     )
-answers_told capacity view rows (Shared a b range) row few kept long = elim (cases_Bool (has view a && has view b)) [
+rows_hold_answers capacity view rows (Shared a b range) row few kept long = elim (cases_Bool (has view a && has view b)) [
   | inl e ↦
       let seen = and_parts (has view a) (has view b) e in
       let ka = kept a seen.0 in
@@ -149,14 +151,21 @@ answers_told capacity view rows (Shared a b range) row few kept long = elim (cas
       let i = count_is range (rows a) ka.rises in (
         list_outcome range (flat (rows a)) (flat (rows b)),
         record {
-          returned = rw (e, f) refl;
-          right = rw (e, f) (ap list (list_back (length m ∷ []) row m (omega arith) ∙ common_is range (rows a) ka.rises (rows b) kb.rises));
-          examined = rw e (omega arith);
+          tells = record {
+            returned = rw (e, f) refl;
+            right = rw (e, f) (ap list (list_back (length m ∷ []) row m (omega arith) ∙ common_is range (rows a) ka.rises (rows b) kb.rises));
+            examined = rw e (omega arith);
+          };
           left = rw (e, f, common_is range (rows a) ka.rises (rows b) kb.rises) refl;
         },
       )
-  | inr e ↦ (unseen, record { returned = rw e refl; right = rw e refl; examined = rw e refl; left = rw e refl })
+  | inr e ↦ (unseen, record { tells = record { returned = rw e refl; right = rw e refl; examined = rw e refl }; left = rw e refl })
 ]
+
+pub answers_told : AnswersTold
+answers_told capacity view rows query row few kept long =
+    let t = rows_hold_answers capacity view rows query row few kept long in
+    (t.0, t.1.tells)
 
 pub lent_is_seen : LentIsSeen
 lent_is_seen view (Rows range) c h = h

@@ -22,11 +22,15 @@ pub record Kept (rs : List Row) (capacity : ℕ) : Type 0 where
 abbrev pub parts_of : (ℕ → List Row) → List ℕ → List (List ℕ)
 parts_of rows cs = map (λ c. flat (rows c)) cs
 
--- what is returned, read with the row, is the model's answer, and the rows examined are its cost; the row holds the answer and is else as it was
+-- what is returned, read with the row, is the model's answer, and the rows examined are its cost
 pub record Tells (view : List ℕ) (rows : ℕ → List Row) (query : Query) (row : List ℕ) (told : Outcome) : Type 0 where
   pub returned : outcome query (parts_of rows (looked_at view query)) (length row) ≡ Some told
   pub right : read_answer told.answered (row_after query (parts_of rows (looked_at view query)) row) ≡ answer view rows query
   pub examined : told.examined ≡ cost view rows query
+
+-- and the row holds the answer and is else as it was
+pub record TellsWithRow (view : List ℕ) (rows : ℕ → List Row) (query : Query) (row : List ℕ) (told : Outcome) : Type 0 where
+  pub tells : Tells view rows query row told
   pub left : row_after query (parts_of rows (looked_at view query)) row ≡ with_answer (answer view rows query) row
 
 -- THE CODE ANSWERS AS THE MODEL DOES. Lent the parts of what it looks at, and a row that is as long as needed, a query is answered, and rightly.
@@ -35,6 +39,13 @@ AnswersTold = (capacity : ℕ → ℕ) (view : List ℕ) (rows : ℕ → List Ro
     → ((c : ℕ) → has view c ≡ true → Kept (rows c) (capacity c))
     → ((n : ℕ) → needed_for capacity view query ≡ Some n → n ≤ length row)
     → (told : Outcome) × Tells view rows query row told
+
+-- and the row holds the answer.
+abbrev pub RowsHoldAnswers : Type 0
+RowsHoldAnswers = (capacity : ℕ → ℕ) (view : List ℕ) (rows : ℕ → List Row) (query : Query) (row : List ℕ) → length view ≤ 16
+    → ((c : ℕ) → has view c ≡ true → Kept (rows c) (capacity c))
+    → ((n : ℕ) → needed_for capacity view query ≡ Some n → n ≤ length row)
+    → (told : Outcome) × TellsWithRow view rows query row told
 
 -- A ROW AS LONG AS NEEDED IS ENOUGH, whatever the parts hold, if none is longer than its compartment's capacity.
 abbrev pub NeverRefused : Type 0

@@ -1,9 +1,10 @@
 // What answers and costs are: each function carries theorems, and does nothing else.
-ghost use Rattle.query.specs.Laws.{AnswersTold, NeverRefused, LentIsSeen, CostsAreRows};
+ghost use Rattle.query.specs.Laws.{AnswersTold, RowsHoldAnswers, NeverRefused, LentIsSeen, CostsAreRows};
 ghost use Rattle.query.specs.More.{OnlySeen, MoreSeen, AnsweredBehind};
 
 pub fn answers_stands()
     ensures told { AnswersTold }
+    ensures row { RowsHoldAnswers }
     ensures always { NeverRefused }
 {}
 

@@ -1,5 +1,6 @@
 // Queries over what a user sees, their answers, and the rows that answering examines.
 #![tactic(auto)]
+
 use rows::KeyRange;
 
 pub mod laws;

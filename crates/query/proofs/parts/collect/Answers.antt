@@ -3,8 +3,8 @@ use Rattle.std.proofs.Common.{◌≡◌, length, arith}
 use Rattle.query.proofs.Steps.{lengths_more, heads_turn, body_turn, at_turn, count_turn, all_taken}
 use Rattle.query.proofs.parts.collect.Goals as goal
 
-pub slice-bounds-copy-from-slice-end : goal.slice-bounds-copy-from-slice-end
-slice-bounds-copy-from-slice-end c =
+pub slice_bounds-copy_from_slice-end : goal.slice_bounds-copy_from_slice-end
+slice_bounds-copy_from_slice-end c =
     let e = lengths_more c.args.parts.now c.loop-i.i c.loop-i-test.true in
     omega arith
 
@@ -19,7 +19,7 @@ loop-i-preserved c =
     let inv = c.loop-i.invariant in
     let e = lengths_more xs i h in (
       heads_turn range xs i q h v c.loop-i.header c.args.header.now (omega arith) inv.0,
-      body_turn range xs i q h v c.loop-i.body c.args.body.now _ c.loop-i.at _ inv.1 inv.2 c.copy-from-slice.ensures.after (omega arith),
+      body_turn range xs i q h v c.loop-i.body c.args.body.now _ c.loop-i.at _ inv.1 inv.2 c.copy_from_slice.ensures.after (omega arith),
       at_turn range xs i q h v c.loop-i.at inv.2,
       count_turn range xs i q h v c.loop-i.examined inv.3,
       omega arith,

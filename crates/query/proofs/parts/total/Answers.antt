@@ -8,8 +8,8 @@ use Rattle.query.specs.Numbers.{count, count_in, amount_in}
 use Rattle.query.proofs.Steps.{nothing, parts_more, lengths_more}
 use Rattle.query.proofs.parts.total.Goals as goal
 
-pub overflow-add-rows : goal.overflow-add-rows
-overflow-add-rows c =
+pub overflow_add-rows : goal.overflow_add-rows
+overflow_add-rows c =
     let e = lengths_more c.args.parts.now c.loop-i.i c.loop-i-test.true in
     let r : c.total-part.result.rows ≡ length c.range.result.now / 2 = ap (λ t. t.rows) c.total-part.ensures in
     omega arith

@@ -11,11 +11,11 @@ collect-examined-requires c =
     let n = length-map c.args.parts.now (λ x. x.now) in
     record { heads = omega arith; room = simp (length-take, length-drop) (omega arith) }
 
-pub slice-bounds-copy-from-slice-end-2 : goal.slice-bounds-copy-from-slice-end-2
-slice-bounds-copy-from-slice-end-2 c = sym c.collect-examined.auto.header
+pub slice_bounds-copy_from_slice-end-2 : goal.slice_bounds-copy_from_slice-end-2
+slice_bounds-copy_from_slice-end-2 c = sym c.collect-examined.auto.header
 
-pub copy-from-slice-requires : goal.copy-from-slice-requires
-copy-from-slice-requires c =
+pub copy_from_slice-requires : goal.copy_from_slice-requires
+copy_from_slice-requires c =
     let f = fits_gives (map (λ x. x.now) c.args.parts.now) (length c.args.row.now) c.requires in
     head_long c.args.row.now c.collect-examined.new.body (omega arith) ∙ sym c.collect-examined.auto.header
 
@@ -30,6 +30,6 @@ returns c =
     let heads = c.collect-examined.ensures.heads in
     record {
       told = cc;
-      after = both_written c.args.row.now c.copy-from-slice.new.self c.collect-examined.new.body (counts range ps) (cut range ps) (omega arith)
-          (c.copy-from-slice.ensures.after ∙ rw k heads) c.collect-examined.ensures.rows;
+      after = both_written c.args.row.now c.copy_from_slice.new.self c.collect-examined.new.body (counts range ps) (cut range ps) (omega arith)
+          (c.copy_from_slice.ensures.after ∙ rw k heads) c.collect-examined.ensures.rows;
     }

@@ -7,11 +7,11 @@ use Rattle.query.specs.Numbers.{common}
 use Rattle.query.proofs.Steps.{head_long, both_written}
 use Rattle.query.proofs.parts.write_shared.Goals as goal
 
-pub slice-bounds-copy-from-slice-end-2 : goal.slice-bounds-copy-from-slice-end-2
-slice-bounds-copy-from-slice-end-2 c = refl
+pub slice_bounds-copy_from_slice-end-2 : goal.slice_bounds-copy_from_slice-end-2
+slice_bounds-copy_from_slice-end-2 c = refl
 
-pub copy-from-slice-requires : goal.copy-from-slice-requires
-copy-from-slice-requires c = head_long c.args.row.now c.shared.new.out (omega arith)
+pub copy_from_slice-requires : goal.copy_from_slice-requires
+copy_from_slice-requires c = head_long c.args.row.now c.shared.new.out (omega arith)
 
 pub returns : goal.returns
 returns c =
@@ -25,6 +25,6 @@ returns c =
     let body = rw no at c.in-Some.ensures.after in
     record {
       told = rows;
-      after = both_written row c.copy-from-slice.new.self c.shared.new.out (length m ∷ []) (flat m) (omega arith)
-          (c.copy-from-slice.ensures.after ∙ ap (λ n. n ∷ drop 1 (replicate 32 0)) rows) (rw (length_flat m) body);
+      after = both_written row c.copy_from_slice.new.self c.shared.new.out (length m ∷ []) (flat m) (omega arith)
+          (c.copy_from_slice.ensures.after ∙ ap (λ n. n ∷ drop 1 (replicate 32 0)) rows) (rw (length_flat m) body);
     }

@@ -5,5 +5,5 @@ use Rattle.query.proofs.looked.LookedAt.of.Goals as goal
 
 pub returns : goal.returns
 returns c =
-    let copied = c.copy-from-slice.ensures.after in
-    take_at c.copy-from-slice.new.self _ (length c.args.compartments.now) (ap length copied) ∙ copied
+    let copied = c.copy_from_slice.ensures.after in
+    take_at c.copy_from_slice.new.self _ (length c.args.compartments.now) (ap length copied) ∙ copied

@@ -1,8 +1,8 @@
 -- What the code does to numbers is what the definitions say.
-use Rattle.std.proofs.Common.{◌≡◌, ℕ, suc, ◌+◌, ◌-◌, ◌*◌, ◌<◌, ◌≤◌, min, Bool, true, false, List, ◌++◌, length, take, drop, replicate, is_some, Some, None, Decides, Option, sym, refl, ap, ◌∙◌, inl, inr, arith, rules}
+use Rattle.std.proofs.Common.{◌≡◌, eqb, ℕ, suc, ◌+◌, ◌-◌, ◌*◌, ◌<◌, ◌≤◌, min, Bool, true, false, List, ◌++◌, length, take, drop, replicate, is_some, Some, None, Decides, Option, sym, refl, ap, ◌∙◌, inl, inr, arith, rules}
 use borrow.Rule.Slice.PartMut.{put_mid}
 use lib.Seq.{paste, take-append-add}
-use Rattle.std.specs.Cmp.Lexicographic.{Matches}
+use Rattle.std.specs.Cmp.Lexicographic.{pointwise}
 use Rattle.std.proofs.lemmas.Slice.Eq.{slice_eq-Decides, compares_Decides}
 use Rattle.std.proofs.lemmas.List.{append-nil, append_assoc, take_all, take_at, take-append-le, take-replicate, drop_at, drop-drop, drop-replicate, length-take-le}
 use Rattle.std.proofs.lemmas.Bool.{cases_lt, both_ways}
@@ -16,8 +16,8 @@ pub same_decides : (xs ys : List ℕ) → Decides (same_numbers xs ys) (xs ≡ y
 same_decides = compares_Decides same_numbers (search rules)
 
 -- `==` on slices
-pub same_if_matches : (xs ys : List ℕ) (r : Bool) → Matches (λ (a b : ℕ) (t : Bool). Decides t (a ≡ b)) xs ys r → same_numbers xs ys ≡ r
-same_if_matches xs ys r m = same_from_decides (same_numbers xs ys) r (same_decides xs ys) (slice_eq-Decides Decides-eqb xs ys r m)
+pub same_if_equal : (xs ys : List ℕ) (r : Bool) → r ≡ pointwise (λ a b. eqb a b) xs ys → same_numbers xs ys ≡ r
+same_if_equal xs ys r m = same_from_decides (same_numbers xs ys) r (same_decides xs ys) (slice_eq-Decides Decides-eqb xs ys r m)
 
 -- versions over zeros
 pub sixteen_is : (vs : List ℕ) (n : ℕ) → n ≡ min (length vs) 16 → take n vs ++ drop n (replicate 16 0) ≡ sixteen vs

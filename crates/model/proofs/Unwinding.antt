@@ -34,13 +34,13 @@ unwound m R w s t (a ∷ rest) r = elim (cases_Bool (m.relevant t a)) [
   | inl e ↦ rw e (
       let i = unwound m R w (m.step s a) (m.step t a) rest (w.taken s t a r e) in
       elim (cases_Bool (m.observes t a)) [
-        | inl o ↦ let f = w.same-observed s t a r in let g = w.same-output s t a r o in rw (f, o, g, i)
-        | inr o ↦ let f = w.same-observed s t a r in rw (f, o, i)
+        | inl o ↦ let f = w.same_observed s t a r in let g = w.same_output s t a r o in rw (f, o, g, i)
+        | inr o ↦ let f = w.same_observed s t a r in rw (f, o, i)
       ])
   | inr e ↦ rw e (
       let i = unwound m R w s (m.step t a) rest (w.left_out s t a r e) in
       elim (cases_Bool (m.observes t a)) [
-        | inl o ↦ absurd (both_ways _ e (w.observed-relevant t a o))
+        | inl o ↦ absurd (both_ways _ e (w.observed_relevant t a o))
         | inr o ↦ rw (o, i)
       ])
 ]

@@ -15,7 +15,7 @@ fn main(rt: HostRuntime) -> anyhow::Result<()> {
     let mut bytes = Vec::new(rt.alloc());
     rt.stdin().read_to_end(&mut bytes)?;
     let mut memory = [0; MEMORY];
-    let played = trace::play_for(rt.alloc(), &mut memory, user as usize, bytes.as_slice())?;
+    let played = playback::play_for(rt.alloc(), &mut memory, user as usize, bytes.as_slice())?;
     rt.print(played.text.as_str())?;
     match played.refused {
         Some(refusal) => {

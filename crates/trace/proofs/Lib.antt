@@ -1,8 +1,2 @@
--- The lemmas of this crate.
-pub mod Onward
-pub mod Relevance
-pub mod Alongside
-pub mod Bounded
-pub mod Whole
-pub mod Opened
-pub mod Sufficient
+pub mod Turns
+pub mod Sameness

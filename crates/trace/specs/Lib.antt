@@ -1,6 +1,3 @@
--- What the contracts of this crate cite.
-pub mod Items
-pub mod Printed
-pub mod Along
+pub mod Lines
+pub mod Decided
 pub mod Played
-pub mod Enough

@@ -1,72 +1,77 @@
--- What playing a trace prints and leaves, and how it ends.
-use Rattle.std.specs.Prelude.{◌≡◌, ℕ, ◌+◌, ◌*◌, cond, List, [], ◌∷◌, length, take, drop, replicate, Some, None, Option, nat_lt}
-use Rattle.model.specs.Model.{empty}
-use Rattle.policy.specs.Layout.{end_from}
-use Rattle.policy.specs.Numbers.{judged, rules_in, users_in, compartments_in, user_at}
-use Rattle.policy.specs.Read.{Reads}
-use Rattle.policy.specs.declared.Policy.{Policy}
+-- What playing a trace prints, and how it ends.
+use Rattle.std.specs.Prelude.{ℕ, zero, suc, Bool, cond, List, [], ◌++◌, length, drop, Some, None, Option, ◌==◌}
+use Rattle.policy.specs.Rules.{Rules}
+use Rattle.policy.specs.Numbers.{judged, rules_in}
 use Rattle.policy.specs.declared.refusal.Refusal.{Refusal}
-use Rattle.policy.specs.declared.refusal.Refusal.TheVariants.{OutOfBounds}
-use Rattle.promises.specs.Traces.{Made, after, purged}
-use Rattle.store.specs.Calls.{opened}
-use Rattle.trace.specs.Items.{items_of, ended_of}
-use Rattle.trace.specs.Printed.{lent, lines, heard_by, text}
-use Rattle.trace.specs.declared.audience.Audience.{Audience}
-use Rattle.trace.specs.declared.audience.Audience.TheVariants.{Everyone, One}
-use Rattle.trace.specs.declared.items.Item.{Item}
-use Rattle.trace.specs.declared.items.Item.TheVariants.{Request, NoRequest}
-use Rattle.wire.specs.PolicyNumbers.{policy_of}
+use Rattle.policy.specs.declared.refusal.Refusal.TheVariants as refusal
+use Rattle.request.specs.declared.Request.{Request}
+use Rattle.request.specs.declared.Request.TheVariants as request
+use Rattle.trace.specs.Decided.{decided}
+use Rattle.trace.specs.Lines.{line}
+use Rattle.trace.specs.declared.words.Words.TheVariants.{NoRequest}
+use Rattle.wire.specs.NextRequest.{next_in}
+use Rattle.wire.specs.PolicyNumbers.{policy_layout}
+use Rattle.wire.specs.Bytes.{numbers_in, size}
+use Rattle.wire.specs.declared.item.Next.{Next}
+use Rattle.wire.specs.declared.item.Next.TheVariants as next
 
--- what the whole trace tells a user, or everyone: the lines that the model gives from an empty store
-abbrev pub told_text : Audience → List ℕ → List ℕ
-told_text a bytes = text (heard_by a (lines (rules_in (policy_of bytes)) empty (items_of bytes)))
+abbrev pub who : Request → ℕ
+who (request.Write u row) = u
+who (request.Delete u key) = u
+who (request.Copy u c range) = u
+who (request.Query u query) = u
 
--- nothing is printed of a trace that is refused at its opening
-abbrev pub text_by : Audience → Option Refusal → List ℕ → List ℕ
-text_by a (Some why) bytes = []
-text_by a None bytes = told_text a bytes
+-- the line of a request; a request that is none has one too if it is whole
+abbrev pub turn : Rules → Next → List ℕ
+turn p (next.Request r length) = line (who r) (decided p r)
+turn p (next.Fault user place length) = line user (NoRequest place)
+turn p (next.End place) = []
+
+-- how many bytes it takes, unless the trace ends there
+abbrev pub taken : Next → Option ℕ
+taken (next.Request r length) = Some length
+taken (next.Fault user place length) = Some length
+taken (next.End place) = None
+
+-- something of the bytes behind a request, or what holds where the trace ends
+abbrev pub behind : {X : Type 0} → (List ℕ → X) → X → List ℕ → Option ℕ → X
+behind rest end bytes None = end
+behind rest end bytes (Some length) = rest (drop length bytes)
+
+-- what is printed of the bytes from here on; every request takes a byte at least, so there are no more than bytes
+abbrev pub lines : ℕ → Rules → List ℕ → List ℕ
+lines zero p bytes = []
+lines (suc n) p bytes = cond (length bytes == 0) [] (turn p (next_in bytes) ++ behind (lines n p) [] bytes (taken (next_in bytes)))
+
+-- why the trace is broken off, if it is
+abbrev pub refused : Next → Option Refusal
+refused (next.Request r length) = None
+refused (next.Fault user place length) = None
+refused (next.End place) = Some (refusal.NoRequest place)
+
+abbrev pub ended : ℕ → List ℕ → Option Refusal
+ended zero bytes = None
+ended (suc n) bytes = cond (length bytes == 0) None (behind (ended n) (refused (next_in bytes)) bytes (taken (next_in bytes)))
+
+-- the policy of a trace, as numbers
+abbrev pub policy_of : List ℕ → List ℕ
+policy_of bytes = numbers_in (policy_layout bytes) bytes
+
+-- the requests behind it
+abbrev pub requests_of : List ℕ → List ℕ
+requests_of bytes = drop (size (policy_layout bytes)) bytes
+
+abbrev pub text_by : Option Refusal → List ℕ → List ℕ
+text_by (Some why) bytes = []
+text_by None bytes = lines (length (requests_of bytes)) (rules_in (policy_of bytes)) (requests_of bytes)
 
 abbrev pub end_by : Option Refusal → List ℕ → Option Refusal
 end_by (Some why) bytes = Some why
-end_by None bytes = ended_of bytes
+end_by None bytes = ended (length (requests_of bytes)) (requests_of bytes)
 
--- a policy is refused at the opening; in a trace capacities are at most 64
-abbrev pub opening : List ℕ → Option Refusal
-opening bytes = judged 64 (policy_of bytes)
-
+-- what a trace prints: nothing where its policy is refused
 abbrev pub text_of : List ℕ → List ℕ
-text_of bytes = text_by Everyone (opening bytes) bytes
+text_of bytes = text_by (judged 64 (policy_of bytes)) bytes
 
 abbrev pub end_of : List ℕ → Option Refusal
-end_of bytes = end_by (opening bytes) bytes
-
--- how much memory the policy of these numbers asks for
-abbrev pub memory_for : List ℕ → ℕ
-memory_for xs = end_from 0 (take (compartments_in xs) (drop (user_at (users_in xs)) xs)) + 192 * users_in xs
-
--- lent memory may be too short
-abbrev pub short_of : ℕ → List ℕ → Option Refusal
-short_of long bytes = cond (nat_lt long (memory_for (policy_of bytes))) (Some (OutOfBounds long)) None
-
-abbrev pub opening_by : Option Refusal → ℕ → List ℕ → Option Refusal
-opening_by (Some why) long bytes = Some why
-opening_by None long bytes = short_of long bytes
-
-abbrev pub opening_with : ℕ → List ℕ → Option Refusal
-opening_with long bytes = opening_by (opening bytes) long bytes
-
--- the requests among items, each with an answer row
-abbrev pub made_in : List Item → List Made
-made_in [] = []
-made_in (Request r ∷ is) = record { request = r; row = replicate lent 0 } ∷ made_in is
-made_in (NoRequest user place ∷ is) = made_in is
-
--- memory afterwards is what the requests that are relevant to the user leave of an empty one, and no others
-pub record Purged (v : ℕ) (bytes before now : List ℕ) : Type 0 where
-  pub policy : Policy
-  pub reads : Reads (policy_of bytes) policy
-  pub left : now ≡ after policy (opened policy before) (purged policy v (made_in (items_of bytes)))
-
-abbrev pub LeftBy : Option Refusal → ℕ → List ℕ → List ℕ → List ℕ → Type 0
-LeftBy (Some why) v bytes before now = now ≡ before
-LeftBy None v bytes before now = Purged v bytes before now
+end_of bytes = end_by (judged 64 (policy_of bytes)) bytes

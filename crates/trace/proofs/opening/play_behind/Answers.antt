@@ -1,22 +1,19 @@
 use Rattle.std.proofs.Common.{◌≡◌, ℕ, min, length, ap, ◌∙◌}
-use Rattle.std.proofs.lemmas.Result.{IfOk-weaker}
-use Rattle.trace.proofs.Onward.{cut_behind}
-use Rattle.trace.proofs.Opened.{long_enough, behind_text, behind_memory, behind_end}
+use Rattle.policy.specs.Access.{rules_of}
+use Rattle.policy.specs.Numbers.{rules_in, compartments_in}
+use Rattle.policy.proofs.Proved.{reads_rules}
+use Rattle.trace.specs.Played.{policy_of, requests_of}
+use Rattle.trace.proofs.Sameness.{lines_same}
+use Rattle.trace.proofs.Turns.{cut_behind}
 use Rattle.wire.specs.Bytes.{size}
 use Rattle.wire.specs.PolicyNumbers.{policy_layout}
 use Rattle.trace.proofs.opening.play_behind.Goals as goal
 
 pub returns : goal.returns
 returns c =
-    let p = c.args.policy.now in
-    let a = c.args.audience in
     let bs = c.args.bytes.now in
-    let memory = c.args.memory.now in
+    let p = c.args.policy.now in
+    let ns = policy_of bs in
     let rest = cut_behind bs (size (policy_layout bs)) c.min-start.result (c.min-start.ensures ∙ ap (λ (n : ℕ). min n (length bs)) c.policy-length.ensures) in
-    let enough = long_enough p memory _ c.in-default.ensures.told in
-    let ready = c.open.ensures.after in
-    record {
-      text = IfOk-weaker c.play-items.result _ _ (λ x. behind_text p a memory _ bs _ enough ready rest _ _) c.play-items.ensures.text;
-      end = IfOk-weaker c.play-items.result _ _ (λ x. behind_end p a memory _ bs _ enough ready rest x) c.play-items.ensures.end;
-      after = IfOk-weaker c.play-items.result _ _ (λ x. behind_memory p a memory _ bs _ enough ready rest _) c.play-items.ensures.after;
-    }
+    let same = lines_same (rules_of p) (rules_in ns) (compartments_in ns) (reads_rules ns p c.requires) (length (requests_of bs)) (requests_of bs) in
+    record { text = rw same at (rw rest at c.play-requests.ensures.text); end = rw rest at c.play-requests.ensures.end }

@@ -1,0 +1,9 @@
+// Examples of the store's calls and of the worked trace, run.
+#![tactic(auto)]
+
+#[cfg(test)]
+mod stores;
+#[cfg(test)]
+mod three;
+#[cfg(test)]
+mod worked;

@@ -1,0 +1,122 @@
+// The store's calls on the memory of three users: refusals in their order, and both sides of every bound.
+use super::three::THREE;
+use policy::{Policy, Refusal};
+use request::Request;
+use rows::{KeyRange, Row};
+use std::process::Abort;
+use store::Response;
+
+// Compartments begin at 0, 8 and 16, with capacities 3, 3 and 2; memory has 598 numbers.
+const DIGITS: KeyRange = KeyRange { from: 0, to: 9 };
+
+// No version reaches this.
+const LIMIT: u64 = 1 << 40;
+
+fn write(user: usize, key: u32) -> Request {
+    let row = Row { key, amount: 1 };
+    Request::Write { user, row }
+}
+
+fn delete(user: usize, key: u32) -> Request {
+    Request::Delete { user, key }
+}
+
+fn copy(user: usize, compartment: usize) -> Request {
+    Request::Copy {
+        user,
+        compartment,
+        range: DIGITS,
+    }
+}
+
+// Why the request is refused, if it is.
+fn refused(memory: &mut [u64], request: Request) -> Option<Refusal> {
+    let policy = match Policy::read(&THREE, 64) {
+        Ok(policy) => policy,
+        Err(refusal) => return Some(refusal),
+    };
+    match store::serve(&policy, memory, &mut [0; 48], request) {
+        Response::Refused { refusal } => Some(refusal),
+        Response::Done => None,
+        Response::Answered { .. } => None,
+    }
+}
+
+fn refused_opening(memory: &mut [u64]) -> Option<Refusal> {
+    let policy = match Policy::read(&THREE, 64) {
+        Ok(policy) => policy,
+        Err(refusal) => return Some(refusal),
+    };
+    store::open(&policy, memory).err()
+}
+
+fn set(memory: &mut [u64], place: usize, number: u64) {
+    if let Some(slot) = memory.get_mut(place) {
+        *slot = number;
+    }
+}
+
+fn holds(rt: &impl Abort, memory: &[u64], place: usize, number: u64) {
+    assert!(rt; memory.get(place) == Some(&number));
+}
+
+#[test]
+fn opens_memory(rt: HostRuntime) {
+    assert!(rt; refused_opening(&mut [7; 597]) == Some(Refusal::OutOfBounds { place: 597 }));
+    assert!(rt; refused_opening(&mut [7; 598]) == None);
+}
+
+#[test]
+fn refuses_in_words(rt: HostRuntime) {
+    changes(&rt, &mut [0; 598]);
+}
+
+fn changes(rt: &impl Abort, memory: &mut [u64]) {
+    assert!(rt; refused(memory, write(2, 1)) == None);
+    assert!(rt; refused(memory, write(2, 2)) == None);
+    assert!(rt; refused(memory, write(2, 3)) == Some(Refusal::NoRoom { capacity: 2 }));
+    assert!(rt; refused(memory, write(2, 2)) == None);
+    assert!(rt; refused(memory, delete(2, 9)) == Some(Refusal::NoRow { key: 9 }));
+    assert!(rt; refused(memory, copy(2, 0)) == Some(Refusal::NoFlow { compartment: 0 }));
+    assert!(rt; refused(memory, copy(3, 1)) == Some(Refusal::NoFlow { compartment: 1 }));
+    assert!(rt; refused(memory, write(3, 1)) == Some(Refusal::NoUser { user: 3 }));
+    holds(rt, memory, 16, 3);
+    holds(rt, memory, 17, 2);
+}
+
+#[test]
+fn stops_at_the_last_version(rt: HostRuntime) {
+    versions(&rt, &mut [0; 598]);
+}
+
+fn versions(rt: &impl Abort, memory: &mut [u64]) {
+    set(memory, 8, LIMIT - 2);
+    assert!(rt; refused(memory, write(1, 5)) == None);
+    holds(rt, memory, 8, LIMIT - 1);
+    assert!(rt; refused(memory, write(1, 6)) == Some(Refusal::LastVersion { compartment: 1 }));
+    assert!(rt; refused(memory, copy(1, 1)) == Some(Refusal::LastVersion { compartment: 1 }));
+    assert!(rt; refused(memory, delete(1, 6)) == Some(Refusal::NoRow { key: 6 }));
+    holds(rt, memory, 8, LIMIT - 1);
+    holds(rt, memory, 9, 1);
+    set(memory, 8, LIMIT);
+    assert!(rt; refused(memory, write(1, 6)) == Some(Refusal::OutOfBounds { place: 8 }));
+}
+
+#[test]
+fn finds_damage_where_it_looks(rt: HostRuntime) {
+    damage(&rt, &mut [0; 598]);
+}
+
+fn damage(rt: &impl Abort, memory: &mut [u64]) {
+    set(memory, 1, 4);
+    assert!(rt; refused(memory, write(1, 5)) == None);
+    assert!(rt; refused(memory, write(0, 5)) == Some(Refusal::OutOfBounds { place: 1 }));
+    set(memory, 9, 4);
+    assert!(rt; refused(memory, copy(0, 1)) == Some(Refusal::OutOfBounds { place: 1 }));
+    assert!(rt; refused(memory, copy(2, 1)) == Some(Refusal::OutOfBounds { place: 9 }));
+    set(memory, 9, 3);
+    set(memory, 12, 6);
+    set(memory, 14, 7);
+    assert!(rt; refused(memory, write(1, 5)) == None);
+    assert!(rt; refused(memory, write(1, 8)) == Some(Refusal::NoRoom { capacity: 3 }));
+}

@@ -1,0 +1,5 @@
+use Rattle.playback.proofs.Sufficient.{row_enough}
+use Rattle.playback.proofs.laws.row_enough_stands.Goals as goal
+
+pub returns : goal.returns
+returns c = row_enough

@@ -1,0 +1,18 @@
+use Rattle.std.proofs.Common.{◌≡◌, ℕ, length, ap, ◌∙◌}
+use Rattle.std.proofs.lemmas.List.{length-replicate}
+use Rattle.policy.specs.Access.{memory_length}
+use Rattle.playback.specs.declared.audience.Audience.TheVariants.{Everyone}
+use Rattle.playback.proofs.Opened.{all_text, all_end}
+use Rattle.playback.proofs.opening.play_everyone.Goals as goal
+
+pub returns : goal.returns
+returns c =
+    let p = c.args.policy.now in
+    let bs = c.args.bytes.now in
+    let memory = c.as-mut-slice.result.now in
+    let long : length memory ≡ memory_length p =
+    ap length (c.as-mut-slice.ensures.value ∙ c.in-ok-memory.ensures.items-if-clones-equal (λ y e. e)) ∙ (length-replicate {A = ℕ} _ 0 ∙ c.memory-length.ensures) in
+    record {
+      text = rw (all_text p bs c.requires Everyone memory long) at c.play-behind.ensures.text;
+      end = rw (all_end p bs c.requires memory long) at c.play-behind.ensures.end;
+    }

@@ -1,0 +1,6 @@
+-- What the contracts of this crate cite.
+pub mod Items
+pub mod Printed
+pub mod Along
+pub mod Played
+pub mod Enough

@@ -1,0 +1,72 @@
+-- What playing a trace prints and leaves, and how it ends.
+use Rattle.std.specs.Prelude.{◌≡◌, ℕ, ◌+◌, ◌*◌, cond, List, [], ◌∷◌, length, take, drop, replicate, Some, None, Option, nat_lt}
+use Rattle.model.specs.Model.{empty}
+use Rattle.policy.specs.Layout.{end_from}
+use Rattle.policy.specs.Numbers.{judged, rules_in, users_in, compartments_in, user_at}
+use Rattle.policy.specs.Read.{Reads}
+use Rattle.policy.specs.declared.Policy.{Policy}
+use Rattle.policy.specs.declared.refusal.Refusal.{Refusal}
+use Rattle.policy.specs.declared.refusal.Refusal.TheVariants.{OutOfBounds}
+use Rattle.promises.specs.Traces.{Made, after, purged}
+use Rattle.store.specs.Calls.{opened}
+use Rattle.playback.specs.Items.{items_of, ended_of}
+use Rattle.playback.specs.Printed.{lent, lines, heard_by, text}
+use Rattle.playback.specs.declared.audience.Audience.{Audience}
+use Rattle.playback.specs.declared.audience.Audience.TheVariants.{Everyone, One}
+use Rattle.playback.specs.declared.items.Item.{Item}
+use Rattle.playback.specs.declared.items.Item.TheVariants.{Request, NoRequest}
+use Rattle.wire.specs.PolicyNumbers.{policy_of}
+
+-- what the whole trace tells a user, or everyone: the lines that the model gives from an empty store
+abbrev pub told_text : Audience → List ℕ → List ℕ
+told_text a bytes = text (heard_by a (lines (rules_in (policy_of bytes)) empty (items_of bytes)))
+
+-- nothing is printed of a trace that is refused at its opening
+abbrev pub text_by : Audience → Option Refusal → List ℕ → List ℕ
+text_by a (Some why) bytes = []
+text_by a None bytes = told_text a bytes
+
+abbrev pub end_by : Option Refusal → List ℕ → Option Refusal
+end_by (Some why) bytes = Some why
+end_by None bytes = ended_of bytes
+
+-- a policy is refused at the opening; in a trace capacities are at most 64
+abbrev pub opening : List ℕ → Option Refusal
+opening bytes = judged 64 (policy_of bytes)
+
+abbrev pub text_of : List ℕ → List ℕ
+text_of bytes = text_by Everyone (opening bytes) bytes
+
+abbrev pub end_of : List ℕ → Option Refusal
+end_of bytes = end_by (opening bytes) bytes
+
+-- how much memory the policy of these numbers asks for
+abbrev pub memory_for : List ℕ → ℕ
+memory_for xs = end_from 0 (take (compartments_in xs) (drop (user_at (users_in xs)) xs)) + 192 * users_in xs
+
+-- lent memory may be too short
+abbrev pub short_of : ℕ → List ℕ → Option Refusal
+short_of long bytes = cond (nat_lt long (memory_for (policy_of bytes))) (Some (OutOfBounds long)) None
+
+abbrev pub opening_by : Option Refusal → ℕ → List ℕ → Option Refusal
+opening_by (Some why) long bytes = Some why
+opening_by None long bytes = short_of long bytes
+
+abbrev pub opening_with : ℕ → List ℕ → Option Refusal
+opening_with long bytes = opening_by (opening bytes) long bytes
+
+-- the requests among items, each with an answer row
+abbrev pub made_in : List Item → List Made
+made_in [] = []
+made_in (Request r ∷ is) = record { request = r; row = replicate lent 0 } ∷ made_in is
+made_in (NoRequest user place ∷ is) = made_in is
+
+-- memory afterwards is what the requests that are relevant to the user leave of an empty one, and no others
+pub record Purged (v : ℕ) (bytes before now : List ℕ) : Type 0 where
+  pub policy : Policy
+  pub reads : Reads (policy_of bytes) policy
+  pub left : now ≡ after policy (opened policy before) (purged policy v (made_in (items_of bytes)))
+
+abbrev pub LeftBy : Option Refusal → ℕ → List ℕ → List ℕ → List ℕ → Type 0
+LeftBy (Some why) v bytes before now = now ≡ before
+LeftBy None v bytes before now = Purged v bytes before now

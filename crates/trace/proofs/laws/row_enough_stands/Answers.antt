@@ -1,5 +1,0 @@
-use Rattle.trace.proofs.Sufficient.{row_enough}
-use Rattle.trace.proofs.laws.row_enough_stands.Goals as goal
-
-pub returns : goal.returns
-returns c = row_enough

@@ -1,0 +1,57 @@
+// What the policy alone decides of a request.
+ghost use Rattle.std.specs.Prelude.{◌≡◌};
+ghost use Rattle.policy.specs.Access.{rules_of};
+ghost use Rattle.trace.specs.Decided.{decided, asked, allowed};
+
+use super::Words;
+use policy::Policy;
+use query::Query;
+use request::Request;
+
+// Leaves open what only the store can tell.
+pub(crate) fn decide(policy: &Policy, request: Request) -> Words
+    ensures { result ≡ decided (rules_of policy.now) request }
+{
+    match request {
+        Request::Write { user, .. } => if_allowed(policy.has_user(user)),
+        Request::Delete { user, .. } => if_allowed(policy.has_user(user)),
+        Request::Copy {
+            user,
+            compartment,
+            ..
+        } => if_allowed(policy.may_copy(user, compartment as u64)),
+        Request::Query { user, query } => {
+            if policy.has_user(user) {
+                answer(policy, user, query)
+            } else {
+                Words::NotAllowed
+            }
+        }
+    }
+}
+
+fn if_allowed(is_allowed: bool) -> Words
+    ensures { result ≡ allowed is_allowed }
+{
+    if is_allowed {
+        Words::Undecided
+    } else {
+        Words::NotAllowed
+    }
+}
+
+fn answer(policy: &Policy, user: usize, query: Query) -> Words
+    ensures { result ≡ asked (rules_of policy.now) user query }
+{
+    match query {
+        Query::Rows { .. } => Words::Undecided,
+        Query::Total { .. } => Words::Undecided,
+        Query::Shared { a, b, .. } => {
+            if policy.sees(user, a as u64) && policy.sees(user, b as u64) {
+                Words::Undecided
+            } else {
+                Words::NotSeen
+            }
+        }
+    }
+}

@@ -17,22 +17,22 @@ use Rattle.query.specs.declared.Outcome.{Outcome}
 use Rattle.query.specs.declared.Query.{Query}
 use Rattle.query.specs.declared.Query.TheVariants.{Rows, Total, Shared}
 use Rattle.query.specs.Answers.{Answer, answer}
-use Rattle.query.specs.Laws.{parts_of, Tells as Right}
+use Rattle.query.specs.Laws.{parts_of, TellsWithRow as Right}
 use Rattle.query.specs.Looks.{looked_at, needed_for, room}
 use Rattle.query.specs.Numbers.{outcome, row_after, read_answer, with_answer}
 use Rattle.query.proofs.Views.{has_head, has_tail, view_few}
 use Rattle.query.proofs.Seen.{same_map}
-use Rattle.query.proofs.Written.{answers_told, lent_is_seen}
+use Rattle.query.proofs.Written.{rows_hold_answers, lent_is_seen}
 use Rattle.cache.specs.declared.Kept.{Kept}
 use Rattle.cache.specs.declared.Kept.TheVariants.{Rows as kept_rows, Total as kept_total, Shared as kept_shared, NotSeen as kept_none}
 use Rattle.cache.specs.Entries.{Entry, held, OfView}
 use Rattle.cache.specs.Places.{look_up, keep_in}
 use Rattle.cache.proofs.Stored.{look_up_flat, find_is_exact, keep_held}
 use Rattle.request.specs.declared.Request.TheVariants.{Query as Ask}
-use Rattle.model.specs.Model.{State, Response, refused, answered, response, step, lend, needed, capacities, keep, recall, answering, entry, versions_seen, look_up as found_IsAmong}
+use Rattle.model.specs.Model.{State, Response, refused, answered, response, step, lend, needed, capacities, keep, recall, answering, entry, versions_seen, look_up as found_among}
 use Rattle.answering.specs.Places.{version_at, part_at, fault_at, lower, damaged}
 use Rattle.answering.specs.Asked.{versions_in, parts_in, cache_part, with_cache, kept_of, recalled, recalled_row, kept_by, worked_out, worked_row, told_by, memory_by, row_by, found, refusal_by, refusal_of, unless, checked_by, checked, asked_told, asked_memory, asked_row}
-use Rattle.answering.specs.Tie.{Holds, Tells, row_with, AsModel, QueriesAsModel}
+use Rattle.answering.specs.Tie.{Holds, Tells, row_with, AsModelWithRow, QueriesAsModel, QueriesAsModelWithRow}
 use Rattle.std.specs.Option.{ok_or}
 
 -- BOUNDS AND LENGTHS
@@ -138,15 +138,15 @@ module _ (r : Rules) (limit : ℕ) (s : State) (user : ℕ) (query : Query) (len
     short_cache : leb (needed r user query) lent ≡ false → (step r limit s (lend (Ask user query) lent)).cache user ≡ s.cache user
     short_cache b = rw (a, b) refl
 
-    model_told : (k : Option Kept) → leb (needed r user query) lent ≡ true → found_IsAmong r s user query ≡ k →
+    model_told : (k : Option Kept) → leb (needed r user query) lent ≡ true → found_among r s user query ≡ k →
         response r limit s (lend (Ask user query) lent) ≡ answering r s user query k
     model_told k b e = rw (a, b, e) refl
 
-    hit_cache : (k : Kept) → leb (needed r user query) lent ≡ true → found_IsAmong r s user query ≡ Some k →
+    hit_cache : (k : Kept) → leb (needed r user query) lent ≡ true → found_among r s user query ≡ Some k →
         (step r limit s (lend (Ask user query) lent)).cache user ≡ s.cache user
     hit_cache k b e = rw (a, b, e) refl
 
-    miss_cache : leb (needed r user query) lent ≡ true → found_IsAmong r s user query ≡ None →
+    miss_cache : leb (needed r user query) lent ≡ true → found_among r s user query ≡ None →
         (step r limit s (lend (Ask user query) lent)).cache user ≡ take 8 (entry r s user query ∷ s.cache user)
     miss_cache b e = rw (a, b, e, eq-eqb user user refl) refl
 
@@ -230,7 +230,7 @@ module _ (p : Policy) (limit : ℕ) (s : State) (user : ℕ) (query : Query) (me
   worked : (told : Outcome) → Right view s.rows query row told → worked_out p memory view query (length row) ≡ Ok told
   worked told w =
       ap (λ (ps : List (List ℕ)). ok_or (outcome query ps (length row)) (ShortRow (length row))) parts_are
-      ∙ ap (λ (o : Option Outcome). ok_or o (ShortRow (length row))) w.returned
+      ∙ ap (λ (o : Option Outcome). ok_or o (ShortRow (length row))) w.tells.returned
 
   abbrev row_again : List ℕ
   row_again = row_after query (parts_of s.rows (looked_at view query)) row
@@ -244,22 +244,24 @@ module _ (p : Policy) (limit : ℕ) (s : State) (user : ℕ) (query : Query) (me
       ∙ ap (λ (ps : List ℕ). with_cache at ps memory) (h.cache at i)
       ∙ ap (λ (es : List Entry). with_cache at (held 8 es) memory) (sym k)
 
-  none_there : p.users ≤ user → AsModel p limit s user query memory row
+  none_there : p.users ≤ user → AsModelWithRow p limit s user query memory row
   none_there u =
       let f = le-ltb user p.users u in
       let m = checked_absent memory_left memory_of p memory (length row) user query h.long u in
       record {
-        told = tells_by _ _ _ _ _ _ (checked_absent refuse told_of p memory (length row) user query h.long u) refl (model_absent (rules_of p) limit s user query (length row) f) refl;
+        model = record {
+          told = tells_by _ _ _ _ _ _ (checked_absent refuse told_of p memory (length row) user query h.long u) refl (model_absent (rules_of p) limit s user query (length row) f) refl;
+          kept = λ at i. absurd (never_some at (sym (ap (λ (b : Bool). cond b (Some place) None) f) ∙ i));
+          absent = λ i. m;
+        };
         left = left_by _ _ _ _ _ (checked_absent row_left row_of p memory (length row) user query h.long u) (model_absent (rules_of p) limit s user query (length row) f) refl;
-        kept = λ at i. absurd (never_some at (sym (ap (λ (b : Bool). cond b (Some place) None) f) ∙ i));
-        absent = λ i. m;
       }
 
   module _ (u : user < p.users) where
     here : cache_at p user ≡ Some place
     here = ap (λ (b : Bool). cond b (Some place) None) (lt-ltb user p.users u)
 
-    found_is : found p memory view place query ≡ found_IsAmong (rules_of p) s user query
+    found_is : found p memory view place query ≡ found_among (rules_of p) s user query
     found_is =
         let vs = versions_seen (rules_of p) s user in
         let n : length vs ≡ length view = length-map view s.version in
@@ -278,19 +280,21 @@ module _ (p : Policy) (limit : ℕ) (s : State) (user : ℕ) (query : Query) (me
         checked_there stop give p memory (length row) user query h.long u undamaged
         ∙ ap (λ (b : Bool). unless stop (give view place) (cond b None (Some (ShortRow (length row))))) t
 
-    too_short : leb (needed (rules_of p) user query) (length row) ≡ false → AsModel p limit s user query memory row
+    too_short : leb (needed (rules_of p) user query) (length row) ≡ false → AsModelWithRow p limit s user query memory row
     too_short t =
         let l = lt-ltb user p.users u in
         let m = settled memory_left memory_of false t in
         record {
-          told = tells_by _ _ _ _ _ _ (settled refuse told_of false t) refl (model_short (rules_of p) limit s user query (length row) l t) refl;
+          model = record {
+            told = tells_by _ _ _ _ _ _ (settled refuse told_of false t) refl (model_short (rules_of p) limit s user query (length row) l t) refl;
+            kept = λ at i. m ∙ same_memory at i (short_cache (rules_of p) limit s user query (length row) l t);
+            absent = λ i. m;
+          };
           left = left_by _ _ _ _ _ (settled row_left row_of false t) (model_short (rules_of p) limit s user query (length row) l t) refl;
-          kept = λ at i. m ∙ same_memory at i (short_cache (rules_of p) limit s user query (length row) l t);
-          absent = λ i. m;
         }
 
     module _ (t : leb (needed (rules_of p) user query) (length row) ≡ true) (told : Outcome) (w : Right view s.rows query row told) where
-      hit : (k : Kept) → found_IsAmong (rules_of p) s user query ≡ Some k → AsModel p limit s user query memory row
+      hit : (k : Kept) → found_among (rules_of p) s user query ≡ Some k → AsModelWithRow p limit s user query memory row
       hit k e =
           let l = lt-ltb user p.users u in
           let f = found_is ∙ e in
@@ -301,13 +305,15 @@ module _ (p : Policy) (limit : ℕ) (s : State) (user : ℕ) (query : Query) (me
           let m : asked_memory p memory (length row) user query ≡ memory =
           settled memory_left memory_of true t ∙ ap (λ (o : Option Kept). memory_by p memory view (versions_in p memory view) place query (length row) o) f in
           record {
-            told = tells_by _ _ _ _ _ _ a b (model_told (rules_of p) limit s user query (length row) l (Some k) t e) (recalled_right k told row_again row (answer view s.rows query) w.right);
+            model = record {
+              told = tells_by _ _ _ _ _ _ a b (model_told (rules_of p) limit s user query (length row) l (Some k) t e) (recalled_right k told row_again row (answer view s.rows query) w.tells.right);
+              kept = λ at i. m ∙ same_memory at i (hit_cache (rules_of p) limit s user query (length row) l k t e);
+              absent = λ i. m;
+            };
             left = left_by _ _ _ _ _ b (model_told (rules_of p) limit s user query (length row) l (Some k) t e) (recalled_left k row_again row (answer view s.rows query) w.left);
-            kept = λ at i. m ∙ same_memory at i (hit_cache (rules_of p) limit s user query (length row) l k t e);
-            absent = λ i. m;
           }
 
-      miss : found_IsAmong (rules_of p) s user query ≡ None → AsModel p limit s user query memory row
+      miss : found_among (rules_of p) s user query ≡ None → AsModelWithRow p limit s user query memory row
       miss e =
           let l = lt-ltb user p.users u in
           let f = found_is ∙ e in
@@ -324,31 +330,36 @@ module _ (p : Policy) (limit : ℕ) (s : State) (user : ℕ) (query : Query) (me
           let n : asked_memory p memory (length row) user query ≡ with_cache place (held 8 next_cache) memory =
           m
           ∙ ap (λ (ws : List ℕ). with_cache place (keep_in query ws (kept_of told.answered) (cache_part place memory)) memory) versions_are
-          ∙ ap (λ (k : Kept). with_cache place (keep_in query vs k (cache_part place memory)) memory) (kept_is told.answered row_again ∙ ap (λ (x : Answer). keep x) w.right)
+          ∙ ap (λ (k : Kept). with_cache place (keep_in query vs k (cache_part place memory)) memory) (kept_is told.answered row_again ∙ ap (λ (x : Answer). keep x) w.tells.right)
           ∙ ap (λ (ps : List ℕ). with_cache place (keep_in query vs new ps) memory) (h.cache place here)
           ∙ ap (λ (ps : List ℕ). with_cache place ps memory) (keep_held (entry (rules_of p) s user query) 8 (s.cache user) h.few)
           ∙ ap (λ (es : List Entry). with_cache place (held 8 es) memory) (sym (miss_cache (rules_of p) limit s user query (length row) l t e)) in
           record {
-            told = tells_by _ _ _ _ _ _ a b (model_told (rules_of p) limit s user query (length row) l None t e) (told_right _ _ _ _ w.right w.examined);
+            model = record {
+              told = tells_by _ _ _ _ _ _ a b (model_told (rules_of p) limit s user query (length row) l None t e) (told_right _ _ _ _ w.tells.right w.tells.examined);
+              kept = λ at i. n ∙ ap (λ (k : ℕ). with_cache k (held 8 next_cache) memory) (same_some place at (sym here ∙ i));
+              absent = λ i. absurd (never_some place (sym i ∙ here));
+            };
             left = left_by _ _ _ _ _ b (model_told (rules_of p) limit s user query (length row) l None t e) w.left;
-            kept = λ at i. n ∙ ap (λ (k : ℕ). with_cache k (held 8 next_cache) memory) (same_some place at (sym here ∙ i));
-            absent = λ i. absurd (never_some place (sym i ∙ here));
           }
 
-      either : (k : Option Kept) → found_IsAmong (rules_of p) s user query ≡ k → AsModel p limit s user query memory row
+      either : (k : Option Kept) → found_among (rules_of p) s user query ≡ k → AsModelWithRow p limit s user query memory row
       either (Some k) e = hit k e
       either None e = miss e
 
-    answered_there : leb (needed (rules_of p) user query) (length row) ≡ true → AsModel p limit s user query memory row
+    answered_there : leb (needed (rules_of p) user query) (length row) ≡ true → AsModelWithRow p limit s user query memory row
     answered_there t =
-        let r = answers_told (rules_of p).capacity view s.rows query row few h.orderly (long_enough (rules_of p) user query (length row) t) in
-        either t r.0 r.1 (found_IsAmong (rules_of p) s user query) refl
+        let r = rows_hold_answers (rules_of p).capacity view s.rows query row few h.orderly (long_enough (rules_of p) user query (length row) t) in
+        either t r.0 r.1 (found_among (rules_of p) s user query) refl
 
-pub queries_as_model : QueriesAsModel
-queries_as_model p limit s user query memory row h = elim (cases_lt user p.users) [
+pub queries_with_row : QueriesAsModelWithRow
+queries_with_row p limit s user query memory row h = elim (cases_lt user p.users) [
   | inl u ↦ elim (cases_Bool (leb (needed (rules_of p) user query) (length row))) [
     | inl t ↦ answered_there p limit s user query memory row h u t
     | inr t ↦ too_short p limit s user query memory row h u t
   ]
   | inr u ↦ none_there p limit s user query memory row h u
 ]
+
+pub queries_as_model : QueriesAsModel
+queries_as_model p limit s user query memory row h = (queries_with_row p limit s user query memory row h).model

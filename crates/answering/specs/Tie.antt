@@ -37,19 +37,28 @@ row_with done row = row
 row_with (refused refusal) row = row
 row_with (answered a examined) row = with_answer a row
 
--- the same is told, and the row holds it; memory afterwards has the next state's cache where the user's was, and is otherwise as it was
+-- the same is told; memory afterwards has the next state's cache where the user's was, and is otherwise as it was
 pub record AsModel (p : Policy) (limit : ℕ) (s : State) (user : ℕ) (query : Query) (memory row : List ℕ) : Type 0 where
   pub told : Tells (asked_told p memory (length row) user query) (asked_row p memory row user query)
       (response (rules_of p) limit s (lend (Ask user query) (length row)))
-  pub left : asked_row p memory row user query ≡ row_with (response (rules_of p) limit s (lend (Ask user query) (length row))) row
   pub kept : (at : ℕ) → cache_at p user ≡ Some at →
       asked_memory p memory (length row) user query ≡ with_cache at (held 8 ((step (rules_of p) limit s (lend (Ask user query) (length row))).cache user)) memory
   pub absent : cache_at p user ≡ None → asked_memory p memory (length row) user query ≡ memory
+
+-- and the row holds what is told
+pub record AsModelWithRow (p : Policy) (limit : ℕ) (s : State) (user : ℕ) (query : Query) (memory row : List ℕ) : Type 0 where
+  pub model : AsModel p limit s user query memory row
+  pub left : asked_row p memory row user query ≡ row_with (response (rules_of p) limit s (lend (Ask user query) (length row))) row
 
 -- A QUERY DOES AS THE MODEL, over memory that holds what the user sees of a state, with a row of any length and content.
 abbrev pub QueriesAsModel : Type 0
 QueriesAsModel = (p : Policy) (limit : ℕ) (s : State) (user : ℕ) (query : Query) (memory row : List ℕ) → Holds p s user memory →
     AsModel p limit s user query memory row
+
+-- and its row holds what is told.
+abbrev pub QueriesAsModelWithRow : Type 0
+QueriesAsModelWithRow = (p : Policy) (limit : ℕ) (s : State) (user : ℕ) (query : Query) (memory row : List ℕ) → Holds p s user memory →
+    AsModelWithRow p limit s user query memory row
 
 -- A REFUSAL LEAVES MEMORY AND THE ANSWER ROW AS THEY WERE, whatever they hold.
 abbrev pub RefusalsLeave : Type 0

@@ -1,10 +1,11 @@
 // What it is to ask: each function carries a theorem, and does nothing else.
 ghost use Rattle.answering.specs.Alike.{RestDoesNotShow};
 ghost use Rattle.answering.specs.Stay.{CompartmentsStay};
-ghost use Rattle.answering.specs.Tie.{QueriesAsModel, RefusalsLeave};
+ghost use Rattle.answering.specs.Tie.{QueriesAsModel, QueriesAsModelWithRow, RefusalsLeave};
 
 pub fn asks_as_model_stands()
-    ensures { QueriesAsModel }
+    ensures model { QueriesAsModel }
+    ensures row { QueriesAsModelWithRow }
 {}
 
 pub fn refusals_leave_stands()

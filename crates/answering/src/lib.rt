@@ -1,5 +1,6 @@
 // A query answered over the store's lent memory: from the user's cache, or worked out of the compartments that the user sees.
 #![tactic(auto)]
+
 ghost use Rattle.std.specs.Prelude.{◌≡◌, ◌+◌, ◌≤◌, length};
 ghost use Rattle.policy.specs.Access.{memory_length};
 ghost use Rattle.policy.specs.Views.{view_of};

@@ -12,9 +12,9 @@ returns c =
     let at = c.args.at in
     let q = c.args.query in
     let v = view_of c.args.contract.now in
-    let e : c.first-versions.result.now ≡ versions_in p m v = c.first-versions.ensures ∙ (c.read-versions.ensures ∙ ap (λ (cs : List ℕ). versions_in p m cs) c.view-view.ensures.value) in
+    let e : c.first-versions.result.now ≡ versions_in p m v = c.first-versions.ensures ∙ (c.read_versions.ensures ∙ ap (λ (cs : List ℕ). versions_in p m cs) c.view-view.ensures.value) in
     record {
-      told = c.by-versions.ensures.told ∙ ap (λ (vs : List ℕ). told_by p m v q (length row) (look_up q vs (cache_part at m))) e;
-      after = c.by-versions.ensures.after ∙ ap (λ (vs : List ℕ). memory_by p m v vs at q (length row) (look_up q vs (cache_part at m))) e;
-      lent = c.by-versions.ensures.lent ∙ ap (λ (vs : List ℕ). row_by p m v q row (look_up q vs (cache_part at m))) e;
+      told = c.by_versions.ensures.told ∙ ap (λ (vs : List ℕ). told_by p m v q (length row) (look_up q vs (cache_part at m))) e;
+      after = c.by_versions.ensures.after ∙ ap (λ (vs : List ℕ). memory_by p m v vs at q (length row) (look_up q vs (cache_part at m))) e;
+      lent = c.by_versions.ensures.lent ∙ ap (λ (vs : List ℕ). row_by p m v q row (look_up q vs (cache_part at m))) e;
     }

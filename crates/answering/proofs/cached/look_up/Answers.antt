@@ -4,4 +4,4 @@ use Rattle.answering.proofs.Within.{cache_read}
 use Rattle.answering.proofs.cached.look_up.Goals as goal
 
 pub returns : goal.returns
-returns c = c.look-up.ensures ∙ cache_read (look_up c.args.query c.args.versions.now) c.args.at c.args.memory.now
+returns c = c.look_up.ensures ∙ cache_read (look_up c.args.query c.args.versions.now) c.args.at c.args.memory.now

@@ -1,5 +1,5 @@
-use Rattle.answering.proofs.Tied.{queries_as_model}
+use Rattle.answering.proofs.Tied.{queries_as_model, queries_with_row}
 use Rattle.answering.proofs.laws.asks_as_model_stands.Goals as goal
 
 pub returns : goal.returns
-returns c = queries_as_model
+returns c = record { model = queries_as_model; row = queries_with_row }

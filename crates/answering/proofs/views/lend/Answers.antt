@@ -7,8 +7,8 @@ pub loop-i-preserved : goal.loop-i-preserved
 loop-i-preserved c =
     let i = c.loop-i.i in
     let f = part_at c.args.policy.now c.args.memory.now in
-    let put = take_more_set c.loop-i.parts i c.rows-at.result (omega arith) in
-    let both = map-append (λ x. x.now) (take i c.loop-i.parts) (c.rows-at.result ∷ []) in
+    let put = take_more_set c.loop-i.parts i c.rows_at.result (omega arith) in
+    let both = map-append (λ x. x.now) (take i c.loop-i.parts) (c.rows_at.result ∷ []) in
     let more = map_more f c.args.compartments.now i 0 c.loop-i-test.true in
     cc
 

@@ -7,7 +7,7 @@ pub loop-i-preserved : goal.loop-i-preserved
 loop-i-preserved c =
     let i = c.loop-i.i in
     let f = version_at c.args.policy.now c.args.memory.now in
-    let put = take_more_set c.loop-i.versions i c.version-at.result (omega arith) in
+    let put = take_more_set c.loop-i.versions i c.version_at.result (omega arith) in
     let more = map_more f c.args.view.now i 0 c.loop-i-test.true in
     cc
 

@@ -1,5 +1,6 @@
 // One compartment's part of memory: its version, its number of rows, and room for its capacity of rows of two numbers.
 #![tactic(auto)]
+
 ghost use Rattle.std.specs.Prelude.{◌≡◌, ◌+◌, ◌*◌, ◌^◌, ◌<◌, ◌≤◌, not, ◌++◌, length, take, drop, is_some, IfOk, slice_index, slice_set};
 ghost use Rattle.rows.specs.Numbers.{put_count, put_into, delete_count, delete_from};
 ghost use Rattle.compartment.specs.Parts.{checked, rows_part, write_told, write_after, delete_told, delete_after, raise_told, raise_after};
@@ -163,7 +164,7 @@ mod tests {
         assert!(rt; matches!(none, Err(Refusal::NoRow { key: 6 })));
         assert!(rt; part == [2, 2, 5, 50, 7, 70]);
         assert!(rt; delete(&mut part, 10, 3, 5).is_ok());
-        assert!(rt; rows_of(&part, 1) == [7, 70]);
+        assert!(rt; rows_of(&part, 1) == [7, 70].as_slice());
         assert!(rt; part[0] == 3 && part[1] == 1);
     }
 

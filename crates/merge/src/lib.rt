@@ -1,5 +1,6 @@
 // Copies rows of one part of memory into another part of it, by merging from behind.
 #![tactic(auto)]
+
 ghost use Rattle.std.specs.Prelude.{◌≡◌, ◌+◌, ◌*◌, ◌/◌, ◌^◌, ◌<◌, ◌≤◌, true, length, drop, IfSome};
 ghost use Rattle.rows.specs.Halving.{rows_of};
 ghost use Rattle.rows.specs.Numbers.{stands_at, skipped, merged};

@@ -17,13 +17,13 @@ use Rattle.rows.specs.Rows.{put, has_key}
 use Rattle.std.proofs.lemmas.Bool.{cases_Bool}
 use Rattle.std.specs.List.{AllByRecursion as All}
 use Rattle.store.specs.Calls.{opened}
-use Rattle.store.specs.Served.{change_response, query_response, served_row, heard, tells, leaves}
+use Rattle.store.specs.Served.{served_row}
 use Rattle.store.specs.Simulation.{Holds, Follows, as_result}
 use Rattle.store.proofs.Following.{open_holds, write_follows, delete_follows}
 use Rattle.store.proofs.Copies.{copy_follows}
-use Rattle.store.proofs.Asks.{ask_follows}
-use Rattle.promises.specs.Promises.{Noninterference, TwoTraces, FollowsTheModel, RightAnswers}
-use Rattle.promises.specs.Traces.{Made, Possible, possible, Reply, call_of, after, told_on, purged}
+use Rattle.store.proofs.Asks.{ask_with_row}
+use Rattle.promises.specs.Promises.{Noninterference, NoninterferenceWithRows, TwoTraces, TwoTracesWithRows, FollowsTheModel, RightAnswers, RightAnswersWithRow}
+use Rattle.promises.specs.Traces.{Made, Possible, possible, Reply, call_of, as_response, as_answer, tells, leaves, after, told_on, replies_on, purged}
 
 -- one request: it tells what the model tells, and leaves memory that holds the model's next state
 pub record Steps (p : Policy) (s : State) (memory : List ℕ) (m : Made) : Type 0 where
@@ -31,13 +31,13 @@ pub record Steps (p : Policy) (s : State) (memory : List ℕ) (m : Made) : Type 
   pub left : served_row p memory m.row m.request ≡ row_with (response (rules_of p) limit s (call_of m)) m.row
   pub holds : Holds p (step (rules_of p) limit s (call_of m)) (leaves p memory m.request m.row)
 
-told_so : (t : Result Outcome Refusal) (row : List ℕ) (r : Response) → Tells t row r → heard (query_response t) row ≡ r
+told_so : (t : Result Outcome Refusal) (row : List ℕ) (r : Response) → Tells t row r → as_answer t row ≡ r
 told_so (Ok x) row r e = sym e
 told_so (Err x) row r e = sym e
 
 -- a change is done or refused, so nothing is lost where it is returned, and the answer row stays
 pub record Plain (r : Response) (row : List ℕ) : Type 0 where
-  pub back : heard (change_response (as_result r)) row ≡ r
+  pub back : as_response (as_result r) ≡ r
   pub row_stays : row ≡ row_with r row
 
 plain : (a b c : Bool) (x y z : Refusal) (row : List ℕ) → Plain (cond a (cond b (cond c done (refused x)) (refused y)) (refused z)) row
@@ -49,7 +49,7 @@ plain false b c x y z row = record { back = refl; row_stays = refl }
 -- a change tells what the model tells, which is done or refused
 change_steps : (p : Policy) (s : State) (call : Call) (told : Result (Unit {0}) Refusal) (after row : List ℕ) →
     Follows p s call told after → Plain (response (rules_of p) limit s call) row →
-    (heard (change_response told) row ≡ response (rules_of p) limit s call) × (row ≡ row_with (response (rules_of p) limit s call) row)
+    (as_response told ≡ response (rules_of p) limit s call) × (row ≡ row_with (response (rules_of p) limit s call) row)
 change_steps p s call told after row f q = (rw f.tells q.back, q.row_stays)
 
 pub steps : (p : Policy) (s : State) (memory : List ℕ) (request : Request) (row : List ℕ) → Holds p s memory → possible request →
@@ -70,7 +70,7 @@ steps p s memory (Copy user from range) row h b =
     let told = change_steps _ _ _ _ _ row f (plain (may_copy (rules_of p) user from) (leb (length (copied (rules_of p) s user from range)) ((rules_of p).capacity c)) (ltb (suc (s.version c)) limit) (LastVersion c) (NoRoom ((rules_of p).capacity c)) (NoFlow from) row) in
     record { tells_so = told.0; left = told.1; holds = f.holds }
 steps p s memory (Ask user query) row h b =
-    let f = ask_follows p s memory row user query h in record { tells_so = told_so _ _ _ f.tells; left = f.left; holds = f.holds }
+    let f = ask_with_row p s memory row user query h in record { tells_so = told_so _ _ _ f.follows.tells; left = f.left; holds = f.follows.holds }
 
 -- the rows that are lent to a user, in their order
 abbrev lent_to : ℕ → List Made → List (List ℕ)
@@ -84,12 +84,12 @@ with_rows (r ∷ rs) [] = []
 with_rows (r ∷ rs) (row ∷ rows) = record { response = r; row = row_with r row } ∷ with_rows rs rows
 
 -- a user is told along the calls what the model tells them, and their rows hold it
-told_follows : (p : Policy) (v : ℕ) (s : State) (memory : List ℕ) (made : List Made) → Holds p s memory → All Possible made →
-    told_on p v memory made ≡ with_rows (told (rules_of p) limit v s (map call_of made)) (lent_to v made)
-told_follows p v s memory [] h a = refl
-told_follows p v s memory (m ∷ ms) h a =
+replies_follow : (p : Policy) (v : ℕ) (s : State) (memory : List ℕ) (made : List Made) → Holds p s memory → All Possible made →
+    replies_on p v memory made ≡ with_rows (told (rules_of p) limit v s (map call_of made)) (lent_to v made)
+replies_follow p v s memory [] h a = refl
+replies_follow p v s memory (m ∷ ms) h a =
     let f = steps p s memory m.request m.row h a.0 in
-    let rest = told_follows p v (step (rules_of p) limit s (call_of m)) (leaves p memory m.request m.row) ms f.holds a.1 in
+    let rest = replies_follow p v (step (rules_of p) limit s (call_of m)) (leaves p memory m.request m.row) ms f.holds a.1 in
     elim (cases_Bool (eqb (who m.request) v)) [ inl e ↦ rw (e, f.tells_so, f.left, rest) refl | inr e ↦ rw (e, rest) refl ]
 
 holds_follow : (p : Policy) (s : State) (memory : List ℕ) (made : List Made) → Holds p s memory → All Possible made →
@@ -121,24 +121,44 @@ lent_purged p v (m ∷ ms) =
       | inr e ↦ elim (cases_Bool (relevant (rules_of p) v (call_of m))) [ inl r ↦ rw (r, e) i | inr r ↦ rw (r, e) i ]
     ]
 
-pub noninterference : Noninterference
-noninterference p v memory made long a =
+-- the responses alone
+responses_are : (p : Policy) (v : ℕ) (memory : List ℕ) (made : List Made) → told_on p v memory made ≡ map (λ (r : Reply). r.response) (replies_on p v memory made)
+responses_are p v memory [] = refl
+responses_are p v memory (m ∷ ms) =
+    let i = responses_are p v (leaves p memory m.request m.row) ms in
+    elim (cases_Bool (eqb (who m.request) v)) [ inl e ↦ rw (e, i) refl | inr e ↦ rw (e, i) refl ]
+
+pub noninterference_with_rows : NoninterferenceWithRows
+noninterference_with_rows p v memory made long a =
     let h = open_holds p memory long in
     let calls = map call_of made in
-    let whole = told_follows p v empty (opened p memory) made h a in
-    let part = told_follows p v empty (opened p memory) (purged p v made) h (purged_possible p v made a) in
+    let whole = replies_follow p v empty (opened p memory) made h a in
+    let part = replies_follow p v empty (opened p memory) (purged p v made) h (purged_possible p v made a) in
     let same = model.noninterference (rules_of p) limit v calls (policies_valid p).sound in
     rw (part, whole, purged_is p v made, lent_purged p v made, same) refl
+
+pub noninterference : Noninterference
+noninterference p v memory made long a =
+    responses_are p v (opened p memory) (purged p v made)
+    ∙ ap (map (λ (r : Reply). r.response)) (noninterference_with_rows p v memory made long a)
+    ∙ sym (responses_are p v (opened p memory) made)
 
 pub two_traces : TwoTraces
 two_traces p v memory made others long a b e =
     sym (noninterference p v memory made long a) ∙ (ap (told_on p v (opened p memory)) e ∙ noninterference p v memory others long b)
 
+pub two_traces_with_rows : TwoTracesWithRows
+two_traces_with_rows p v memory made others long a b e =
+    sym (noninterference_with_rows p v memory made long a) ∙ (ap (replies_on p v (opened p memory)) e ∙ noninterference_with_rows p v memory others long b)
+
 pub follows_the_model : FollowsTheModel
 follows_the_model p memory made long a = holds_follow p empty (opened p memory) made (open_holds p memory long) a
 
-pub right_answers : RightAnswers
-right_answers p memory made user query row long a there enough =
+pub right_answers_with_row : RightAnswersWithRow
+right_answers_with_row p memory made user query row long a there enough =
     let f = steps p (run (rules_of p) limit empty (map call_of made)) (after p (opened p memory) made) (Ask user query) row (follows_the_model p memory made long a) tt in
     let right = answers.right_answers (rules_of p) limit (map call_of made) user query (length row) there enough in
     rw (f.tells_so, f.left, right) refl
+
+pub right_answers : RightAnswers
+right_answers p memory made user query row long a there enough = ap (λ (r : Reply). r.response) (right_answers_with_row p memory made user query row long a there enough)

@@ -12,9 +12,9 @@ use Rattle.request.specs.declared.Request.TheVariants.{Query as Ask}
 use Rattle.std.specs.List.{AllByRecursion as All}
 use Rattle.store.specs.Calls.{opened}
 use Rattle.store.specs.Simulation.{Holds}
-use Rattle.promises.specs.Traces.{Made, Possible, call_of, tells_all, after, told_on, purged}
+use Rattle.promises.specs.Traces.{Made, Possible, call_of, tells, tells_all, after, told_on, replies_on, purged}
 
--- NONINTERFERENCE. What a user is told, answers, refusals and rows examined, and what their answer rows hold afterwards, is what they would be told
+-- NONINTERFERENCE. What a user is told, answers, refusals and rows examined, is what they would be told
 -- if all requests that aren't relevant to them were never made.
 abbrev pub Noninterference : Type 0
 Noninterference =
@@ -34,9 +34,28 @@ FollowsTheModel =
     Holds p (run (rules_of p) limit empty (map call_of made)) (after p (opened p memory) made)
 
 -- RIGHT ANSWERS. Whoever is there and asks with a row that is long enough is answered, kept or not, with what the query gives
--- for what they see at that moment, and their row holds it and is else as it was; rows examined are none where the query is known, and else exactly what it costs.
+-- for what they see at that moment; rows examined are none where the query is known, and else exactly what it costs.
 abbrev pub RightAnswers : Type 0
 RightAnswers =
+    (p : Policy) (memory : List ℕ) (made : List Made) (user : ℕ) (query : Query) (row : List ℕ) → memory_length p ≤ length memory → All Possible made →
+    user < p.users → needed (rules_of p) user query ≤ length row →
+    tells p (after p (opened p memory) made) (Ask user query) row
+    ≡ answered (answer ((rules_of p).view user) (run (rules_of p) limit empty (map call_of made)).rows query) (examined (rules_of p) limit (map call_of made) user query)
+
+-- The same three with what the answer rows hold afterwards: it is told too.
+abbrev pub NoninterferenceWithRows : Type 0
+NoninterferenceWithRows =
+    (p : Policy) (v : ℕ) (memory : List ℕ) (made : List Made) → memory_length p ≤ length memory → All Possible made →
+    replies_on p v (opened p memory) (purged p v made) ≡ replies_on p v (opened p memory) made
+
+abbrev pub TwoTracesWithRows : Type 0
+TwoTracesWithRows =
+    (p : Policy) (v : ℕ) (memory : List ℕ) (made others : List Made) → memory_length p ≤ length memory → All Possible made → All Possible others →
+    purged p v made ≡ purged p v others → replies_on p v (opened p memory) made ≡ replies_on p v (opened p memory) others
+
+-- The row of whoever is answered holds the answer, and is else as it was.
+abbrev pub RightAnswersWithRow : Type 0
+RightAnswersWithRow =
     (p : Policy) (memory : List ℕ) (made : List Made) (user : ℕ) (query : Query) (row : List ℕ) → memory_length p ≤ length memory → All Possible made →
     user < p.users → needed (rules_of p) user query ≤ length row →
     let right = answer ((rules_of p).view user) (run (rules_of p) limit empty (map call_of made)).rows query in

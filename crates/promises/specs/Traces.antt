@@ -1,13 +1,17 @@
 -- Traces of calls on memory: what each request tells and leaves, by the definitions that the calls' contracts name.
-use Rattle.std.specs.Prelude.{ℕ, Bool, cond, List, [], ◌∷◌, length, ◌==◌}
+use Rattle.std.specs.Prelude.{ℕ, Bool, cond, List, [], ◌∷◌, length, Ok, Err, Result, ◌==◌}
+use Rattle.answering.specs.Asked.{asked_told, asked_memory, asked_row}
 use Rattle.compartment.specs.Holding.{Brought}
-use Rattle.model.specs.Model.{Call, lend, Response, who, relevant}
+use Rattle.model.specs.Model.{Call, lend, Response, done, refused, answered, who, relevant}
 use Rattle.policy.specs.Access.{rules_of}
 use Rattle.policy.specs.declared.Policy.{Policy}
+use Rattle.policy.specs.declared.refusal.Refusal.{Refusal}
+use Rattle.query.specs.Numbers.{read_answer}
+use Rattle.query.specs.declared.Outcome.{Outcome}
 use Rattle.request.specs.declared.Request.{Request}
 use Rattle.request.specs.declared.Request.TheVariants.{Write, Delete, Copy, Query as Ask}
+use Rattle.store.specs.Calls.{wrote_told, wrote, deleted_told, deleted, copied_told, copied}
 use Rattle.store.specs.Served.{served_row}
-pub use Rattle.store.specs.Served.{tells, leaves}
 
 -- a request as it is made, with the answer row that is lent for it
 pub record Made : Type 0 where
@@ -24,13 +28,29 @@ possible (Ask user query) = Unit {0}
 abbrev pub Possible : Made → Type 0
 Possible m = possible m.request
 
--- what the user is told of a request: the response, and what the answer row holds afterwards
-pub record Reply : Type 0 where
-  pub response : Response
-  pub row : List ℕ
+-- what a call returns, as a response
+abbrev pub as_response : Result (Unit {0}) Refusal → Response
+as_response (Ok x) = done
+as_response (Err e) = refused e
 
-abbrev pub tells_all : Policy → List ℕ → Made → Reply
-tells_all p memory m = record { response = tells p memory m.request m.row; row = served_row p memory m.row m.request }
+-- an answer is read out of what is returned and of the row afterwards
+abbrev pub as_answer : Result Outcome Refusal → List ℕ → Response
+as_answer (Ok told) row = answered (read_answer told.answered row) told.examined
+as_answer (Err e) row = refused e
+
+-- what a request tells
+abbrev pub tells : Policy → List ℕ → Request → List ℕ → Response
+tells p memory (Write user row) lent = as_response (wrote_told p user row memory)
+tells p memory (Delete user key) lent = as_response (deleted_told p user key memory)
+tells p memory (Copy user c range) lent = as_response (copied_told p user c range memory)
+tells p memory (Ask user query) lent = as_answer (asked_told p memory (length lent) user query) (asked_row p memory lent user query)
+
+-- and what memory holds afterwards
+abbrev pub leaves : Policy → List ℕ → Request → List ℕ → List ℕ
+leaves p memory (Write user row) lent = wrote p user row memory
+leaves p memory (Delete user key) lent = deleted p user key memory
+leaves p memory (Copy user c range) lent = copied p user c range memory
+leaves p memory (Ask user query) lent = asked_memory p memory (length lent) user query
 
 -- memory after a list of requests
 abbrev pub after : Policy → List ℕ → List Made → List ℕ
@@ -38,10 +58,10 @@ after p memory [] = memory
 after p memory (m ∷ ms) = after p (leaves p memory m.request m.row) ms
 
 -- what a user is told on the way
-abbrev pub told_on : Policy → ℕ → List ℕ → List Made → List Reply
+abbrev pub told_on : Policy → ℕ → List ℕ → List Made → List Response
 told_on p v memory [] = []
 told_on p v memory (m ∷ ms) =
-    cond (who m.request == v) (tells_all p memory m ∷ told_on p v (leaves p memory m.request m.row) ms)
+    cond (who m.request == v) (tells p memory m.request m.row ∷ told_on p v (leaves p memory m.request m.row) ms)
     (told_on p v (leaves p memory m.request m.row) ms)
 
 -- the request as the model has it
@@ -52,3 +72,18 @@ call_of m = lend m.request (length m.row)
 abbrev pub purged : Policy → ℕ → List Made → List Made
 purged p v [] = []
 purged p v (m ∷ ms) = cond (relevant (rules_of p) v (call_of m)) (m ∷ purged p v ms) (purged p v ms)
+
+-- a response, and what the answer row holds afterwards
+pub record Reply : Type 0 where
+  pub response : Response
+  pub row : List ℕ
+
+abbrev pub tells_all : Policy → List ℕ → Made → Reply
+tells_all p memory m = record { response = tells p memory m.request m.row; row = served_row p memory m.row m.request }
+
+-- what a user is told on the way, with what their answer rows hold afterwards
+abbrev pub replies_on : Policy → ℕ → List ℕ → List Made → List Reply
+replies_on p v memory [] = []
+replies_on p v memory (m ∷ ms) =
+    cond (who m.request == v) (tells_all p memory m ∷ replies_on p v (leaves p memory m.request m.row) ms)
+    (replies_on p v (leaves p memory m.request m.row) ms)

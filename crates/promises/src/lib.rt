@@ -1,15 +1,17 @@
 // What the store promises of every list of requests: each function carries a theorem, and does nothing else.
 #![tactic(auto)]
-ghost use Rattle.promises.specs.Promises.{Noninterference, TwoTraces, FollowsTheModel, RightAnswers};
+ghost use Rattle.promises.specs.Promises.{Noninterference, NoninterferenceWithRows, TwoTraces, TwoTracesWithRows, FollowsTheModel, RightAnswers, RightAnswersWithRow};
 
 pub mod laws;
 
 pub fn noninterference_stands()
-    ensures { Noninterference }
+    ensures told { Noninterference }
+    ensures rows { NoninterferenceWithRows }
 {}
 
 pub fn two_traces_stands()
-    ensures { TwoTraces }
+    ensures told { TwoTraces }
+    ensures rows { TwoTracesWithRows }
 {}
 
 pub fn follows_the_model_stands()
@@ -17,5 +19,6 @@ pub fn follows_the_model_stands()
 {}
 
 pub fn right_answers_stands()
-    ensures { RightAnswers }
+    ensures told { RightAnswers }
+    ensures row { RightAnswersWithRow }
 {}

@@ -3,7 +3,7 @@ use Rattle.std.proofs.Common.{◌≡◌, ℕ, zero, suc, ◌+◌, ◌-◌, ◌*�
 use Rattle.answering.specs.Asked.{asked_memory, with_cache, cache_part}
 use Rattle.answering.specs.Places.{part_at, version_at, fault_at}
 use Rattle.answering.specs.Tie as tie
-use Rattle.answering.proofs.Tied.{queries_as_model}
+use Rattle.answering.proofs.Tied.{queries_with_row}
 use Rattle.cache.specs.Entries.{Entry, held, OfView}
 use Rattle.cache.specs.declared.Kept.{Kept}
 use Rattle.cache.proofs.Stored.{length_held}
@@ -25,7 +25,7 @@ use Rattle.std.proofs.lemmas.List.{get_or_past, length-take, length-take-le, len
 use Rattle.std.proofs.lemmas.Bool.{cases_Bool, cases_eq, cases_lt, lt-ltb, le-ltb, lt-leb, ltb-true, eq-eqb, cond-true, cond-false, both_ways}
 use Rattle.std.specs.List.{AllByRecursion as All}
 use Rattle.store.specs.Memory.{end, part}
-use Rattle.store.specs.Simulation.{Holds, QueryFollows, AskFollows, cache_start}
+use Rattle.store.specs.Simulation.{Holds, AskFollows, AskFollowsWithRow, cache_start}
 use Rattle.store.proofs.Parts.{kept_length, part_here, part_apart}
 use Rattle.store.proofs.Standing.{stands_in, count_in, version_in}
 
@@ -165,14 +165,21 @@ module _ (p : Policy) (s : State) (memory : List ℕ) (h : Holds p s memory) (us
         of_view = of_view_then;
       }
 
-pub ask_follows : AskFollows
-ask_follows p s memory row user query h =
-    let q = queries_as_model p limit s user query memory row (seen p s memory h user) in
+pub ask_with_row : AskFollowsWithRow
+ask_with_row p s memory row user query h =
+    let w = queries_with_row p limit s user query memory row (seen p s memory h user) in
+    let q = w.model in
     elim (cases_Bool (ltb user p.users)) [
       | inl e ↦
           let at : cache_at p user ≡ Some (cache_start p user) = cond-true (ltb user p.users) _ _ e in
-          record { tells = q.told; left = q.left; holds = rw (q.kept (cache_start p user) at) (asked_holds p s memory h user (length row) query (ltb-true user p.users e)) }
+          record {
+            follows = record { tells = q.told; holds = rw (q.kept (cache_start p user) at) (asked_holds p s memory h user (length row) query (ltb-true user p.users e)) };
+            left = w.left;
+          }
       | inr e ↦
           let none : cache_at p user ≡ None = cond-false (ltb user p.users) _ _ e in
-          record { tells = q.told; left = q.left; holds = rw (q.absent none, e) h }
+          record { follows = record { tells = q.told; holds = rw (q.absent none, e) h }; left = w.left }
     ]
+
+pub ask_follows : AskFollows
+ask_follows p s memory row user query h = (ask_with_row p s memory row user query h).follows

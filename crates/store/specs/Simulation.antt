@@ -57,15 +57,22 @@ CopyFollows =
     (p : Policy) (s : State) (memory : List ℕ) (user lent c : ℕ) (range : KeyRange) → Holds p s memory →
     Follows p s (lend (Copy user c range) lent) (copied_told p user c range memory) (copied p user c range memory)
 
--- a query tells what the model tells, with a row of any length and content; the row holds the answer afterwards and is else as it was; it leaves memory that holds the model's next state
+-- a query tells what the model tells, with a row of any length and content, and leaves memory that holds the model's next state
 pub record QueryFollows (p : Policy) (s : State) (memory row : List ℕ) (user : ℕ) (query : Query) : Type 0 where
   pub tells : Tells (asked_told p memory (length row) user query) (asked_row p memory row user query)
       (response (rules_of p) limit s (lend (Ask user query) (length row)))
-  pub left : asked_row p memory row user query ≡ row_with (response (rules_of p) limit s (lend (Ask user query) (length row))) row
   pub holds : Holds p (step (rules_of p) limit s (lend (Ask user query) (length row))) (asked_memory p memory (length row) user query)
 
 abbrev pub AskFollows : Type 0
 AskFollows = (p : Policy) (s : State) (memory row : List ℕ) (user : ℕ) (query : Query) → Holds p s memory → QueryFollows p s memory row user query
+
+-- and the row holds what is told afterwards, and is else as it was
+pub record QueryFollowsWithRow (p : Policy) (s : State) (memory row : List ℕ) (user : ℕ) (query : Query) : Type 0 where
+  pub follows : QueryFollows p s memory row user query
+  pub left : asked_row p memory row user query ≡ row_with (response (rules_of p) limit s (lend (Ask user query) (length row))) row
+
+abbrev pub AskFollowsWithRow : Type 0
+AskFollowsWithRow = (p : Policy) (s : State) (memory row : List ℕ) (user : ℕ) (query : Query) → Holds p s memory → QueryFollowsWithRow p s memory row user query
 
 -- memory that was opened holds the empty state
 abbrev pub OpenHolds : Type 0

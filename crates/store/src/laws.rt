@@ -1,5 +1,5 @@
 // The calls follow the model: each function carries theorems, and does nothing else.
-ghost use Rattle.store.specs.Simulation.{OpenHolds, WriteFollows, DeleteFollows, CopyFollows, AskFollows};
+ghost use Rattle.store.specs.Simulation.{OpenHolds, WriteFollows, DeleteFollows, CopyFollows, AskFollows, AskFollowsWithRow};
 
 pub fn open_stands()
     ensures { OpenHolds }
@@ -18,5 +18,6 @@ pub fn copy_stands()
 {}
 
 pub fn ask_stands()
-    ensures { AskFollows }
+    ensures model { AskFollows }
+    ensures row { AskFollowsWithRow }
 {}

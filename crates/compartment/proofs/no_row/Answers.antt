@@ -4,5 +4,5 @@ use Rattle.compartment.proofs.no_row.Goals as goal
 
 pub returns : goal.returns
 returns c =
-    no_row_is c.args.count c.args.part.now c.requires c.rows-of.result.now c.rows-of.ensures c.find.result c.is-none.result c.is-none.ensures
+    no_row_is c.args.count c.args.part.now c.requires c.rows_of.result.now c.rows_of.ensures c.find.result c.is_none.result c.is_none.ensures
     c.args.key c.find.ensures.value

@@ -3,7 +3,7 @@ use Rattle.std.proofs.Common.{length, ap, arith}
 use Rattle.merge.proofs.Ranges.{range_part_within}
 use Rattle.merge.proofs.planned.Goals as goal
 
-pub overflow-sub-result-2 : goal.overflow-sub-result-2
-overflow-sub-result-2 c =
+pub overflow_sub-result-2 : goal.overflow_sub-result-2
+overflow_sub-result-2 c =
     let kept = ap length c.range-kept.ensures.value in
     omega (arith, range_part_within c.args.keys c.args.into.now, c.position-place.ensures.value)

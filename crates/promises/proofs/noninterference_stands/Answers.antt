@@ -1,5 +1,5 @@
-use Rattle.promises.proofs.Proved.{noninterference}
+use Rattle.promises.proofs.Proved.{noninterference, noninterference_with_rows}
 use Rattle.promises.proofs.noninterference_stands.Goals as goal
 
 pub returns : goal.returns
-returns c = noninterference
+returns c = record { told = noninterference; rows = noninterference_with_rows }

@@ -16,16 +16,16 @@ use Rattle.request.specs.declared.Request.TheVariants.{Write, Delete, Copy, Quer
 use Rattle.rows.specs.declared.KeyRange.{KeyRange}
 use Rattle.store.specs.Calls.{short, change_told, change_memory, both, counts_told, planned_told, planned_memory, plan_for, between_told, between_memory, memory_by, rows_then, itself_told, itself_memory, copy_told, copy_memory, wrote_told, deleted_told, copied_told}
 use Rattle.store.specs.Memory.{part}
-use Rattle.store.specs.Served.{change_response, query_response, heard}
 use Rattle.store.specs.declared.copying.counts.Counts.{Counts}
 use Rattle.store.proofs.Changing.{with_same}
 use Rattle.promises.specs.Effects.{RefusalsLeave}
+use Rattle.promises.specs.Traces.{as_response, as_answer}
 
-not_done : (x : Result (Unit {0}) Refusal) (row : List ℕ) (why : Refusal) → heard (change_response x) row ≡ refused why → is_ok x ≡ false
-not_done (Ok x) row why e = let z : ◌≡◌ {A = ℕ} 0 1 = cc in absurd (omega arith)
-not_done (Err x) row why e = refl
+not_done : (x : Result (Unit {0}) Refusal) (why : Refusal) → as_response x ≡ refused why → is_ok x ≡ false
+not_done (Ok x) why e = let z : ◌≡◌ {A = ℕ} 0 1 = cc in absurd (omega arith)
+not_done (Err x) why e = refl
 
-not_answered : (x : Result Outcome Refusal) (row : List ℕ) (why : Refusal) → heard (query_response x) row ≡ refused why → x ≡ Err why
+not_answered : (x : Result Outcome Refusal) (row : List ℕ) (why : Refusal) → as_answer x row ≡ refused why → x ≡ Err why
 not_answered (Ok x) row why e = let z : ◌≡◌ {A = ℕ} 0 1 = cc in absurd (omega arith)
 not_answered (Err x) row why e = cc
 
@@ -71,17 +71,17 @@ copy_leaves false true x c range (Some w) (Some from) memory e = there_leaves w 
 pub refusals_change_nothing : RefusalsLeave
 refusals_change_nothing p memory (Write user row) lent why e = (
   change_leaves (short p memory) (OutOfBounds (length memory)) (λ w. write_told w.place.start w.compartment row) (write_after row) user (written_at p user) memory
-      (λ w. write_refused w.place.start w.compartment row (part w.place memory)) (not_done (wrote_told p user row memory) lent why e),
+      (λ w. write_refused w.place.start w.compartment row (part w.place memory)) (not_done (wrote_told p user row memory) why e),
   refl,
 )
 refusals_change_nothing p memory (Delete user key) lent why e = (
   change_leaves (short p memory) (OutOfBounds (length memory)) (λ w. delete_told w.place.start w.compartment key) (delete_after key) user (written_at p user) memory
-      (λ w. delete_refused w.place.start w.compartment key (part w.place memory)) (not_done (deleted_told p user key memory) lent why e),
+      (λ w. delete_refused w.place.start w.compartment key (part w.place memory)) (not_done (deleted_told p user key memory) why e),
   refl,
 )
 refusals_change_nothing p memory (Copy user c range) lent why e = (
   copy_leaves (short p memory) (may_copy (rules_of p) user c) (OutOfBounds (length memory)) c range (written_at p user) (place_at p c) memory
-      (not_done (copied_told p user c range memory) lent why e),
+      (not_done (copied_told p user c range memory) why e),
   refl,
 )
 refusals_change_nothing p memory (Ask user query) lent why e =

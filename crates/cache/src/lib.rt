@@ -1,5 +1,6 @@
 // The answers kept for a user, newest first: looked up by the query and the versions of what the user sees, and kept in front.
 #![tactic(auto)]
+
 ghost use Rattle.std.specs.Prelude.{◌≡◌, ◌/◌, ◌≤◌, ◌++◌, length};
 ghost use Rattle.cache.specs.Places.{query_numbers, key_numbers, kept_numbers, kept_of, kept_in, found_in, look_up, moved_back, keep_in};
 

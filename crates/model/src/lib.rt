@@ -1,5 +1,6 @@
 // The theorems about the model of the store, each on a contract.
 #![tactic(auto)]
+
 ghost use Rattle.model.specs.Effects.{AbsentUsers, CopyEffect, CopyTold, DeleteEffect, DeleteTold, EitherOrder};
 ghost use Rattle.model.specs.Effects.{OnlyWriters, RefusalsChangeNothing, WriteEffect, WriteTold};
 ghost use Rattle.model.specs.Example.{SoundnessNeeded, Worked};

@@ -1,5 +1,6 @@
 // What the store promises of every list of requests: each function carries a theorem, and does nothing else.
 #![tactic(auto)]
+
 ghost use Rattle.promises.specs.Promises.{Noninterference, NoninterferenceWithRows, TwoTraces, TwoTracesWithRows, FollowsTheModel, RightAnswers, RightAnswersWithRow};
 
 pub mod laws;

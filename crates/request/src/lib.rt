@@ -1,5 +1,6 @@
 // What users ask of the store, as values, and how they are read from numbers.
 #![tactic(auto)]
+
 ghost use Rattle.request.specs.Decoded.{decoded, query_of, request_of};
 ghost use Rattle.std.specs.Prelude.{◌≡◌};
 

@@ -1,5 +1,6 @@
 // The store: requests on lent memory, as a policy allows them.
 #![tactic(auto)]
+
 ghost use Rattle.std.specs.Prelude.{◌≡◌, length};
 ghost use Rattle.answering.specs.Asked.{asked_told, asked_memory, asked_row};
 ghost use Rattle.store.specs.Calls.{opened_told, opened, wrote_told, wrote, deleted_told, deleted, copied_told, copied};

@@ -1,5 +1,6 @@
 // Stores that talk: of each it is proved that noninterference fails. Every function carries a theorem, and does nothing else.
 #![tactic(auto)]
+
 ghost use Rattle.talking.specs.Frame.{Fits};
 ghost use Rattle.talking.specs.Talks.{AllExaminedTalks, AllowedIfEmptyTalks, HalfACopyIsPut, LookingFirstTalks};
 ghost use Rattle.talking.specs.Talks.{OneCacheTalks, OneCapacityTalks, OneOfEachKeyTalks};

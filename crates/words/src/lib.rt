@@ -1,5 +1,6 @@
 // What a user is told, in words: a line of text for each response.
 #![tactic(auto)]
+
 ghost use Rattle.std.specs.Prelude.{◌≡◌, ◌++◌, string_bytes, OnOk};
 ghost use Rattle.model.specs.Model.{done, refused, answered};
 ghost use Rattle.query.specs.Numbers.{read_answer};

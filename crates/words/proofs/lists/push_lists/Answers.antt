@@ -16,13 +16,13 @@ loop-i-preserved c =
     let i = c.loop-i.i in
     let at = c.loop-i.at in
     let t = string_bytes c.loop-i.text in
-    let u = string_bytes c.push-blank.new.text in
-    let v = string_bytes c.push-list.new.text in
-    let list = c.first-rows-list.result.now in
+    let u = string_bytes c.push_blank.new.text in
+    let v = string_bytes c.push_list.new.text in
+    let list = c.first_rows-list.result.now in
     let h = c.loop-i-test.true in
-    let e = rw (take_rest xs at) at c.first-rows-list.ensures in (
+    let e = rw (take_rest xs at) at c.first_rows-list.ensures in (
       list_fits xs ns list at i h e c.loop-i.invariant.0,
-      word_turn t u v (list_bytes (rows_of list)) (map list_bytes (split (drop (i + 1) ns) (rows_of (drop (at + length list) xs)))) i c.in-ok-push-blank.ensures c.in-ok-push-list.ensures
+      word_turn t u v (list_bytes (rows_of list)) (map list_bytes (split (drop (i + 1) ns) (rows_of (drop (at + length list) xs)))) i c.in_ok-push_blank.ensures c.in_ok-push_list.ensures
           ∙ ap (λ ls. t ++ onward i (map list_bytes ls)) (sym (split_more xs ns list at i h e))
           ∙ c.loop-i.invariant.1,
     )

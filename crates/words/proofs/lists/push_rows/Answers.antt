@@ -12,9 +12,9 @@ loop-i-preserved c =
     let xs = c.args.rows.now in
     let i = c.loop-i.i in
     let t = string_bytes c.loop-i.text in
-    let u = string_bytes c.push-blank.new.text in
-    let v = string_bytes c.push-row.new.text in
-    word_turn t u v (row_bytes (row_at i xs)) (map row_bytes (rows_of (drop (2 * (i + 1)) xs))) i c.in-ok-push-blank.ensures c.in-ok-push-row.ensures
+    let u = string_bytes c.push_blank.new.text in
+    let v = string_bytes c.push_row.new.text in
+    word_turn t u v (row_bytes (row_at i xs)) (map row_bytes (rows_of (drop (2 * (i + 1)) xs))) i c.in_ok-push_blank.ensures c.in_ok-push_row.ensures
     ∙ ap (λ rs. t ++ onward i (map row_bytes rs)) (sym (rows_more xs i c.loop-i-test.true))
     ∙ c.loop-i.invariant
 

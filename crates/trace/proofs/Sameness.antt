@@ -1,5 +1,5 @@
 -- Rules that are the same print the same.
-use Rattle.std.proofs.Common.{◌≡◌, ℕ, zero, suc, cond, eqb, List, [], ◌++◌, length, Some, None, Option, refl, ap}
+use Rattle.std.proofs.Common.{◌≡◌, ℕ, zero, suc, List, [], length, Some, None, Option, refl}
 use Rattle.policy.specs.Laws.{Same}
 use Rattle.policy.specs.Rules.{Rules}
 use Rattle.policy.proofs.Alike.{may_see_alike, may_copy_alike}

@@ -1,5 +1,5 @@
 -- What playing a trace prints, and how it ends.
-use Rattle.std.specs.Prelude.{ℕ, zero, suc, Bool, cond, List, [], ◌++◌, length, drop, Some, None, Option, ◌==◌}
+use Rattle.std.specs.Prelude.{ℕ, zero, suc, cond, List, [], ◌++◌, length, drop, Some, None, Option, ◌==◌}
 use Rattle.policy.specs.Rules.{Rules}
 use Rattle.policy.specs.Numbers.{judged, rules_in}
 use Rattle.policy.specs.declared.refusal.Refusal.{Refusal}

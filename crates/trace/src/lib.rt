@@ -1,5 +1,6 @@
 // Playing a trace: what each user is told, line by line, and how the trace ended.
 #![tactic(auto)]
+
 ghost use Rattle.std.specs.Prelude.{◌≡◌, IfOk, string_bytes};
 ghost use Rattle.trace.specs.Played.{text_of, end_of};
 

@@ -17,4 +17,4 @@ policy_of bytes = numbers_in (policy_layout bytes) bytes
 
 -- a slice with too few places for the largest policy takes none
 abbrev pub policy_numbers : ℕ → List ℕ → List ℕ
-policy_numbers places bytes = cond (nat_lt places 594) [] (policy_of bytes)
+policy_numbers places bytes = cond (nat_lt places 594) [] (numbers_in (policy_layout bytes) bytes)

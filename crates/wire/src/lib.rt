@@ -1,5 +1,6 @@
 // A trace from bytes: the numbers of its policy, and its requests one after the other.
 #![tactic(auto)]
+
 ghost use Rattle.std.specs.Prelude.{◌≡◌, ◌≤◌, min, ◌++◌, length, drop, IfOk};
 ghost use Rattle.policy.specs.Numbers.{judged};
 ghost use Rattle.policy.specs.Read.{Reads, why};

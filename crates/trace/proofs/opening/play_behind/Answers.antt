@@ -1,4 +1,4 @@
-use Rattle.std.proofs.Common.{◌≡◌, ℕ, min, length, ap, ◌∙◌}
+use Rattle.std.proofs.Common.{ℕ, min, length, ap, ◌∙◌}
 use Rattle.policy.specs.Access.{rules_of}
 use Rattle.policy.specs.Numbers.{rules_in, compartments_in}
 use Rattle.policy.proofs.Proved.{reads_rules}
@@ -14,6 +14,6 @@ returns c =
     let bs = c.args.bytes.now in
     let p = c.args.policy.now in
     let ns = policy_of bs in
-    let rest = cut_behind bs (size (policy_layout bs)) c.min-start.result (c.min-start.ensures ∙ ap (λ (n : ℕ). min n (length bs)) c.policy-length.ensures) in
+    let rest = cut_behind bs (size (policy_layout bs)) c.min-start.result (c.min-start.ensures ∙ ap (λ (n : ℕ). min n (length bs)) c.policy_length.ensures) in
     let same = lines_same (rules_of p) (rules_in ns) (compartments_in ns) (reads_rules ns p c.requires) (length (requests_of bs)) (requests_of bs) in
-    record { text = rw same at (rw rest at c.play-requests.ensures.text); end = rw rest at c.play-requests.ensures.end }
+    record { text = rw same at (rw rest at c.play_requests.ensures.text); end = rw rest at c.play_requests.ensures.end }

@@ -10,7 +10,7 @@ returns-then-bytes-at c =
 
 pub loop-place-preserved : goal.loop-place-preserved
 loop-place-preserved c =
-    filled_more _ _ _ _ _ _ c.loop-place.invariant c.loop-place.auto.numbers _ c.low-first.ensures c.loop-place-test.true c.if-bytes-at.false
+    filled_more _ _ _ _ _ _ c.loop-place.invariant c.loop-place.auto.numbers _ c.low_first.ensures c.loop-place-test.true c.if-bytes-at.false
 
 pub returns : goal.returns
 returns c =

@@ -4,6 +4,6 @@ use Rattle.wire.proofs.policies.read_by.Goals as goal
 
 pub returns : goal.returns
 returns c =
-    let filled = c.numbers-in-count in
+    let filled = c.numbers_in-count in
     let read = front_is _ _ _ filled.result filled.ensures.count filled.ensures.after in
     record { refused = rw read at c.read.ensures.refused; reads = rw read at c.read.ensures.reads }

@@ -7,4 +7,4 @@ use Rattle.wire.proofs.requests.decode_by.Goals as goal
 pub returns : goal.returns
 returns c =
     c.decode.ensures
-    ∙ ap (λ (xs : List ℕ). decoded xs) (front_is _ _ _ c.numbers-in-count.result c.numbers-in-count.ensures.count c.numbers-in-count.ensures.after)
+    ∙ ap (λ (xs : List ℕ). decoded xs) (front_is _ _ _ c.numbers_in-count.result c.numbers_in-count.ensures.count c.numbers_in-count.ensures.after)

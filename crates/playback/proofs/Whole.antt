@@ -9,8 +9,9 @@ use Rattle.policy.specs.Access.{rules_of}
 use Rattle.policy.specs.Laws.{Same, Valid}
 use Rattle.policy.specs.Rules.{Rules, Sound}
 use Rattle.policy.specs.declared.Policy.{Policy}
-use Rattle.promises.specs.Traces.{after, purged}
+use Rattle.promises.specs.Traces.{leaves, after, purged}
 use Rattle.promises.proofs.Proved.{Steps, steps}
+use Rattle.promises.proofs.Served.{tells_served, leaves_served}
 use Rattle.request.specs.declared.Request.{Request}
 use Rattle.answering.proofs.Lengths.{asked_keeps_length}
 use Rattle.request.specs.declared.Request.TheVariants.{Write, Delete, Copy, Query as Ask}
@@ -47,8 +48,8 @@ item_steps : (p : Policy) (s : State) (memory row : List ℕ) (i : Item) → len
 item_steps p s memory row (item.Request r) l h b =
     let f = steps p s memory r row h b in
     record {
-      says = f.tells_so ∙ ap (λ (n : ℕ). response (rules_of p) limit s (lend r n)) l;
-      holds = subst (λ (n : ℕ). Holds p (step (rules_of p) limit s (lend r n)) (served_memory p memory (length row) r)) l f.holds;
+      says = sym (tells_served p memory r row) ∙ f.tells_so ∙ ap (λ (n : ℕ). response (rules_of p) limit s (lend r n)) l;
+      holds = subst (λ (n : ℕ). Holds p (step (rules_of p) limit s (lend r n)) (served_memory p memory (length row) r)) l (subst (λ (m : List ℕ). Holds p (step (rules_of p) limit s (lend r (length row))) m) (leaves_served p memory r row) f.holds);
       long = row_keeps p memory row r ∙ l;
     }
 item_steps p s memory row (item.NoRequest user place) l h b = record { says = refl; holds = h; long = l }
@@ -71,7 +72,9 @@ pub memory_is : (p : Policy) (v : ℕ) (memory row : List ℕ) (is : List Item) 
 memory_is p v memory row [] l = refl
 memory_is p v memory row (item.Request r ∷ is) l =
     elim (cases_Bool (relevant (rules_of p) v (lend r lent))) [
-      | inl e ↦ let rest = memory_is p v (served_memory p memory (length row) r) (served_row p memory row r) is (row_keeps p memory row r ∙ l) in rw (e, l) (rw l at rest)
+      | inl e ↦ let rest = memory_is p v (served_memory p memory (length row) r) (served_row p memory row r) is (row_keeps p memory row r ∙ l) in
+          let k : leaves p memory r (replicate lent 0) ≡ served_memory p memory lent r = leaves_served p memory r (replicate lent 0) in
+          rw (e, l) (subst (λ (m : List ℕ). memory_along p (One v) (served_memory p memory lent r) (served_row p memory row r) is ≡ after p m (purged p v (made_in is))) (sym k) (rw l at rest))
       | inr e ↦ rw e (memory_is p v memory row is l)
     ]
 memory_is p v memory row (item.NoRequest user place ∷ is) l =

@@ -6,3 +6,4 @@ pub mod Effects
 pub mod Example
 pub mod Places
 pub mod Orders
+pub mod Served

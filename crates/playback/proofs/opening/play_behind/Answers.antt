@@ -12,11 +12,11 @@ returns c =
     let a = c.args.audience in
     let bs = c.args.bytes.now in
     let memory = c.args.memory.now in
-    let rest = cut_behind bs (size (policy_layout bs)) c.min-start.result (c.min-start.ensures ∙ ap (λ (n : ℕ). min n (length bs)) c.policy-length.ensures) in
-    let enough = long_enough p memory _ c.in-default.ensures.told in
+    let rest = cut_behind bs (size (policy_layout bs)) c.min-start.result (c.min-start.ensures ∙ ap (λ (n : ℕ). min n (length bs)) c.policy_length.ensures) in
+    let enough = long_enough p memory _ c.in_default.ensures.told in
     let ready = c.open.ensures.after in
     record {
-      text = IfOk-weaker c.play-items.result _ _ (λ x. behind_text p a memory _ bs _ enough ready rest _ _) c.play-items.ensures.text;
-      end = IfOk-weaker c.play-items.result _ _ (λ x. behind_end p a memory _ bs _ enough ready rest x) c.play-items.ensures.end;
-      after = IfOk-weaker c.play-items.result _ _ (λ x. behind_memory p a memory _ bs _ enough ready rest _) c.play-items.ensures.after;
+      text = IfOk-weaker c.play_items.result _ _ (λ x. behind_text p a memory _ bs _ enough ready rest _ _) c.play_items.ensures.text;
+      end = IfOk-weaker c.play_items.result _ _ (λ x. behind_end p a memory _ bs _ enough ready rest x) c.play_items.ensures.end;
+      after = IfOk-weaker c.play_items.result _ _ (λ x. behind_memory p a memory _ bs _ enough ready rest _) c.play_items.ensures.after;
     }

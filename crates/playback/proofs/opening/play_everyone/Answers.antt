@@ -9,10 +9,10 @@ pub returns : goal.returns
 returns c =
     let p = c.args.policy.now in
     let bs = c.args.bytes.now in
-    let memory = c.as-mut-slice.result.now in
+    let memory = c.as_mut_slice.result.now in
     let long : length memory ≡ memory_length p =
-    ap length (c.as-mut-slice.ensures.value ∙ c.in-ok-memory.ensures.items-if-clones-equal (λ y e. e)) ∙ (length-replicate {A = ℕ} _ 0 ∙ c.memory-length.ensures) in
+    ap length (c.as_mut_slice.ensures.value ∙ c.in_ok-memory.ensures.items_if_clones_equal (λ y e. e)) ∙ (length-replicate {A = ℕ} _ 0 ∙ c.memory_length.ensures) in
     record {
-      text = rw (all_text p bs c.requires Everyone memory long) at c.play-behind.ensures.text;
-      end = rw (all_end p bs c.requires memory long) at c.play-behind.ensures.end;
+      text = rw (all_text p bs c.requires Everyone memory long) at c.play_behind.ensures.text;
+      end = rw (all_end p bs c.requires memory long) at c.play_behind.ensures.end;
     }

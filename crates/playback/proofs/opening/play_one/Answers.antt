@@ -9,7 +9,7 @@ returns c =
     let bs = c.args.bytes.now in
     let memory = c.args.memory.now in
     record {
-      text = rw (one_text p bs c.requires (One c.args.user) memory) at c.play-behind.ensures.text;
-      end = rw (one_end p bs c.requires memory) at c.play-behind.ensures.end;
-      after = IfOk-weaker c.play-behind.result _ _ (λ x. one_left p bs c.requires c.args.user memory _) c.play-behind.ensures.after;
+      text = rw (one_text p bs c.requires (One c.args.user) memory) at c.play_behind.ensures.text;
+      end = rw (one_end p bs c.requires memory) at c.play_behind.ensures.end;
+      after = IfOk-weaker c.play_behind.result _ _ (λ x. one_left p bs c.requires c.args.user memory _) c.play_behind.ensures.after;
     }

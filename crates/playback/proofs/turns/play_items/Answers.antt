@@ -7,13 +7,13 @@ use Rattle.playback.proofs.turns.play_items.Goals as goal
 pub loop-at-init : goal.loop-at-init
 loop-at-init c = (length c.args.bytes.now, omega arith, refl, refl, refl)
 
-pub returns-in-default : goal.returns-in-default
-returns-in-default c =
+pub returns-in_default : goal.returns-in_default
+returns-in_default c =
     let l = c.loop-at in
     let some = some_left c.args.bytes.now l.at c.loop-at-test.true in
     let is = rw (take_rest c.args.bytes.now l.at) at c.next-next.ensures.value in
     let fuel : l.invariant.0 ≡ suc (l.invariant.0 - 1) = omega (arith, l.invariant.1) in
-    let none = c.in-default.ensures in
+    let none = c.in_default.ensures in
     let nothing = items_end _ l.at l.invariant.0 (l.invariant.0 - 1) _ fuel some is none in
     record {
       text = sym (append-nil (string_bytes l.text)) ∙ (rw nothing at l.invariant.2);
@@ -31,11 +31,11 @@ loop-at-preserved c =
     let is = rw (take_rest c.args.bytes.now c.loop-at.at) at x.ensures.value in
     let fuel : inv.0 ≡ suc (inv.0 - 1) = omega (arith, inv.1) in
     let on = items_on c.args.bytes.now c.loop-at.at inv.0 (inv.0 - 1) x.result fuel left is t goes in
-    let after = c.play-item.ensures.after in
-    let lent = c.play-item.ensures.lent in (
+    let after = c.play_item.ensures.after in
+    let lent = c.play_item.ensures.lent in (
       inv.0 - 1,
       omega (arith, inv.1, (takes_some _ t x.result x.ensures.takes goes).0),
-      text_on c.args.policy.now _ _ _ _ _ _ _ _ on after lent _ _ _ c.in-ok-play-item.ensures.text inv.2,
+      text_on c.args.policy.now _ _ _ _ _ _ _ _ on after lent _ _ _ c.in_ok-play_item.ensures.text inv.2,
       memory_on c.args.policy.now _ _ _ _ _ _ _ _ on after lent _ inv.3,
       ended_on _ c.loop-at.at inv.0 (inv.0 - 1) x.result fuel left is t goes ∙ inv.4,
     )

@@ -77,7 +77,7 @@ fn gives_contracts(rt: HostRuntime) -> Result<(), Fail> {
         assert!(rt; false);
         return Ok(());
     };
-    assert!(rt; contract.view() == &[1, 2]);
+    assert!(rt; contract.view() == [1, 2].as_slice());
     assert!(rt; contract.writes() == 2 && contract.sees(1) && !contract.sees(9));
     assert!(rt; policy.contract(3).is_none());
     Ok(())

@@ -1,29 +1,28 @@
 // Plays a trace from standard input purged for one user: their lines, and one on standard error where it was refused.
 #![tactic(auto)]
-use anyhow::anyhow;
+
 use std::env;
-use std::io::Read;
+use std::io::{self, Read};
+use std::process::ExitCode;
 
 // The most that a policy of a trace asks for: sixteen compartments of 64 rows, and 32 caches.
 const MEMORY: usize = 8224;
 
-fn main(rt: HostRuntime) -> anyhow::Result<()> {
+fn main(rt: HostRuntime) -> io::Result<ExitCode> {
     let Some(user) = asked(&rt) else {
         eprintln!(rt; "usage: play_for USER < TRACE (USER from 0 to 255)")?;
-        return Err(anyhow!("usage"));
+        return Ok(ExitCode::FAILURE);
     };
     let mut bytes = Vec::new(rt.alloc());
     rt.stdin().read_to_end(&mut bytes)?;
     let mut memory = [0; MEMORY];
     let played = playback::play_for(rt.alloc(), &mut memory, user as usize, bytes.as_slice())?;
     rt.print(played.text.as_str())?;
-    match played.refused {
-        Some(refusal) => {
-            eprintln!(rt; "{refusal}")?;
-            Err(anyhow!("refused"))
-        }
-        None => Ok(()),
-    }
+    let Some(refusal) = played.refused else {
+        return Ok(ExitCode::SUCCESS);
+    };
+    eprintln!(rt; "{refusal}")?;
+    Ok(ExitCode::FAILURE)
 }
 
 // The user that the one argument names, if it is a decimal number of a byte; the first word is the program's name.

@@ -1,5 +1,6 @@
 // Traces as text: what a text says is read into a trace, and a trace is written in bytes.
 #![tactic(auto)]
+
 ghost use Rattle.notation.specs.Said.{held, said_of, trace_in};
 ghost use Rattle.notation.specs.Bytes.{trace_bytes};
 ghost use Rattle.std.specs.Prelude.{◌≡◌, IfOk};

@@ -1,5 +1,5 @@
 -- What a policy answers of a user or a compartment that is there is what its rules say.
-use Rattle.std.proofs.Common.{◌≡◌, ℕ, ◌<◌, ltb, get_or, Some, refl, ap, ◌∙◌, inl, inr, arith}
+use Rattle.std.proofs.Common.{◌≡◌, ℕ, ◌<◌, ltb, get_or, Some, refl, inl, inr, arith}
 use Rattle.std.proofs.lemmas.List.{get_or-take}
 use Rattle.std.proofs.lemmas.Bool.{cases_Bool, ltb-true}
 use Rattle.policy.specs.Access.{rules_of, contract_at, place_at}

@@ -1,9 +1,8 @@
 -- What is listed behind a compartment, and where edges lead.
-use Rattle.std.proofs.Common.{◌≡◌, ℕ, zero, suc, ◌+◌, ◌<◌, ◌≤◌, Bool, true, false, not, ◌&&◌, eqb, ◌⊎◌, List, [], ◌∷◌, filter, sym, refl, ◌∙◌, inl, inr, arith}
+use Rattle.std.proofs.Common.{◌≡◌, ℕ, zero, suc, ◌+◌, ◌<◌, ◌≤◌, Bool, true, not, eqb, filter, refl, inl, inr, arith}
 use Rattle.std.proofs.lemmas.Bool.{cases_Bool, and_parts, and_from, or_cases, not-true, eqb-true, eq-eqb, ne_eqb, eqb-false, cases_eq}
-use Rattle.std.proofs.lemmas.Bool.Decides.{nat_tests}
 use Rattle.std.specs.List.{range_with_len}
-use Rattle.policy.specs.Rules.{Rules, has, flows}
+use Rattle.policy.specs.Rules.{has, flows}
 use Rattle.policy.proofs.Proved.{flows_both_ways}
 use Rattle.overview.specs.Laws.{FlowsShown}
 use Rattle.overview.specs.Shown.{shows_flow}

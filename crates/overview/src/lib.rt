@@ -1,5 +1,6 @@
 // A policy for people: who sees what, who writes where, and where rows may flow.
 #![tactic(auto)]
+
 ghost use Rattle.std.specs.Prelude.{◌≡◌, IfOk, string_bytes};
 ghost use Rattle.overview.specs.Shown.{table_bytes, graph_bytes};
 ghost use Rattle.policy.specs.Access.{rules_of};

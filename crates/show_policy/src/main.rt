@@ -1,10 +1,11 @@
 // Shows the policy of a trace from standard input: as a table, or with the argument `dot` as a graph for Graphviz.
 #![tactic(auto)]
-use anyhow::anyhow;
+
 use policy::Policy;
 use std::alloc::{AllocError, Global};
 use std::env;
-use std::io::Read;
+use std::io::{self, Read};
+use std::process::ExitCode;
 
 // What to show a policy as.
 #[derive(Clone, Copy)]
@@ -13,10 +14,10 @@ enum Form {
     Graph,
 }
 
-fn main(rt: HostRuntime) -> anyhow::Result<()> {
+fn main(rt: HostRuntime) -> io::Result<ExitCode> {
     let Some(form) = asked(&rt) else {
         eprintln!(rt; "usage: show_policy [dot] < TRACE")?;
-        return Err(anyhow!("usage"));
+        return Ok(ExitCode::FAILURE);
     };
     let mut bytes = Vec::new(rt.alloc());
     rt.stdin().read_to_end(&mut bytes)?;
@@ -24,11 +25,11 @@ fn main(rt: HostRuntime) -> anyhow::Result<()> {
         Ok(policy) => {
             let text = show(rt.alloc(), &policy, form)?;
             rt.print(text.as_str())?;
-            Ok(())
+            Ok(ExitCode::SUCCESS)
         }
         Err(refusal) => {
             eprintln!(rt; "{refusal}")?;
-            Err(anyhow!("refused"))
+            Ok(ExitCode::FAILURE)
         }
     }
 }

@@ -1,23 +1,24 @@
 // Writes the trace that the text on standard input says to standard output; of bad text a line on standard error names the line.
 #![tactic(auto)]
-use anyhow::anyhow;
-use std::io::{Read, Write};
+
+use std::io::{self, Read, Write};
+use std::process::ExitCode;
 
 #[cfg(test)]
 mod texts;
 
-fn main(rt: HostRuntime) -> anyhow::Result<()> {
+fn main(rt: HostRuntime) -> io::Result<ExitCode> {
     let mut text = Vec::new(rt.alloc());
     rt.stdin().read_to_end(&mut text)?;
     match notation::read(rt.alloc(), text.as_slice())? {
         Ok(trace) => {
             let bytes = notation::write(rt.alloc(), &trace)?;
             rt.stdout().write_all(bytes.as_slice())?;
-            Ok(())
+            Ok(ExitCode::SUCCESS)
         }
         Err(fault) => {
             eprintln!(rt; "{fault}")?;
-            Err(anyhow!("no trace"))
+            Ok(ExitCode::FAILURE)
         }
     }
 }

@@ -5,16 +5,16 @@ use Rattle.notation.specs.Words.{digits}
 use Rattle.notation.proofs.Texts.{digits_more, digits_all}
 use Rattle.notation.proofs.words.number_of.Goals as goal
 
-pub returns-then-not-is-digit : goal.returns-then-not-is-digit
-returns-then-not-is-digit c =
+pub returns-then-not-is_digit : goal.returns-then-not-is_digit
+returns-then-not-is_digit c =
     let more = digits_more c.loop-byte.number c.args.word.now c.loop-byte.byte-index c.loop-byte-test.true in
-    let none = rw (sym c.if-not-is-digit.ensures) at more in
-    sym none ∙ c.loop-byte.invariant.1 ∙ sym (cond-false _ _ _ (sym c.if-is-empty.ensures))
+    let none = rw (sym c.if-not-is_digit.ensures) at more in
+    sym none ∙ c.loop-byte.invariant.1 ∙ sym (cond-false _ _ _ (sym c.if-is_empty.ensures))
 
 pub loop-byte-preserved : goal.loop-byte-preserved
 loop-byte-preserved c =
     let more = digits_more c.loop-byte.number c.args.word.now c.loop-byte.byte-index c.loop-byte-test.true in
-    let next = rw (sym c.if-not-is-digit.ensures) at more in (
+    let next = rw (sym c.if-not-is_digit.ensures) at more in (
       omega (arith, c.min-number.ensures),
       ap (λ (n : ℕ). digits n (drop (c.loop-byte.byte-index + 1) c.args.word.now)) c.min-number.ensures ∙ sym next ∙ c.loop-byte.invariant.1,
     )
@@ -22,4 +22,4 @@ loop-byte-preserved c =
 pub returns : goal.returns
 returns c =
     let all = digits_all c.loop-byte.number c.args.word.now c.loop-byte.byte-index c.loop-byte-test.false in
-    sym all ∙ c.loop-byte.invariant.1 ∙ sym (cond-false _ _ _ (sym c.if-is-empty.ensures))
+    sym all ∙ c.loop-byte.invariant.1 ∙ sym (cond-false _ _ _ (sym c.if-is_empty.ensures))

@@ -8,7 +8,7 @@ loop-left-preserved c =
     let l = c.loop-left in
     let bs : List ℕ = vec_items l.bytes in
     let rest : List ℕ = low_bytes (l.left - 1) (l.rest / 256) in
-    ap (λ (xs : List ℕ). xs ++ rest) c.in-ok-push.ensures.items
+    ap (λ (xs : List ℕ). xs ++ rest) c.in_ok-push.ensures.items
     ∙ append_assoc bs (l.rest % 256 ∷ []) rest
     ∙ ap (λ (xs : List ℕ). bs ++ xs) (sym (low_more l.left (l.left - 1) l.rest (omega (arith, c.loop-left-test.true))))
     ∙ l.invariant

@@ -5,6 +5,6 @@ use Rattle.notation.proofs.writing.push_parts.Goals as goal
 
 pub returns : goal.returns
 returns c =
-    pushed_twice (vec_items c.args.bytes.now) (vec_items c.push-numbers.new.bytes) (vec_items c.push-numbers-2.new.bytes)
+    pushed_twice (vec_items c.args.bytes.now) (vec_items c.push_numbers.new.bytes) (vec_items c.push_numbers-2.new.bytes)
     (written 1 c.args.single.now) (written 4 c.args.wide.now)
-    c.in-ok-push-numbers.ensures c.in-ok-push-numbers-2.ensures
+    c.in_ok-push_numbers.ensures c.in_ok-push_numbers-2.ensures

@@ -5,7 +5,7 @@ use Rattle.notation.proofs.writing.push_requests.Goals as goal
 
 pub loop-request-preserved : goal.loop-request-preserved
 loop-request-preserved c =
-    pushed_more request_bytes requests_bytes refl (λ x xs. refl) _ _ c.args.requests.now c.loop-request.request-index _ c.loop-request-test.true c.in-ok-push-request.ensures
+    pushed_more request_bytes requests_bytes refl (λ x xs. refl) _ _ c.args.requests.now c.loop-request.request-index _ c.loop-request-test.true c.in_ok-push_request.ensures
     ∙ c.loop-request.invariant
 
 pub returns : goal.returns

@@ -11,4 +11,4 @@ pub returns : goal.returns
 returns c =
     let p = c.args.policy.now in
     two_behind (string_bytes c.args.text.now) (piece_bytes (CompartmentNode c.args.compartment)) (flow_bytes Graph (rules_of p) p.compartments c.args.compartment)
-    c.in-ok-push.ensures c.in-ok-push-flows.ensures
+    c.in_ok-push.ensures c.in_ok-push_flows.ensures

@@ -11,4 +11,4 @@ pub returns : goal.returns
 returns c =
     let p = c.args.policy.now in
     three_behind (string_bytes c.args.text.now) (piece_bytes (room_piece c.args.compartment c.args.capacity)) (flow_bytes Table (rules_of p) p.compartments c.args.compartment) (piece_bytes EndOfLine)
-    (rw c.room-piece.ensures at c.in-ok-push.ensures) c.in-ok-push-flows.ensures c.in-ok-push-2.ensures
+    (rw c.room_piece.ensures at c.in_ok-push.ensures) c.in_ok-push_flows.ensures c.in_ok-push-2.ensures

@@ -1,4 +1,4 @@
-use Rattle.std.proofs.Common.{◌≡◌, string_bytes, arith}
+use Rattle.std.proofs.Common.{string_bytes, arith}
 use Rattle.policy.specs.Access.{rules_of}
 use Rattle.overview.specs.Shown.{compartment_of}
 use Rattle.overview.proofs.Joining.{count_on}
@@ -12,5 +12,5 @@ loop-place-preserved c =
     let is = compartment_there p l.compartment c.in-Some.place c.in-Some.ensures.value in (
       omega (arith, is.0),
       count_on (compartment_of c.args.form (rules_of p) p.compartments) (string_bytes l.text) p.compartments l.compartment l.invariant.1 is.0
-          (rw is.1 at c.in-ok-push-compartment.ensures),
+          (rw is.1 at c.in_ok-push_compartment.ensures),
     )

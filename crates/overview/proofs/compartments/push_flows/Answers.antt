@@ -1,4 +1,4 @@
-use Rattle.std.proofs.Common.{◌≡◌, ℕ, ◌<◌, ◌≤◌, List, ◌++◌, string_bytes, ap, ◌∙◌, arith}
+use Rattle.std.proofs.Common.{ℕ, ◌<◌, ◌≤◌, List, ◌++◌, string_bytes, ap, ◌∙◌, arith}
 use Rattle.std.specs.List.{range_with_len}
 use Rattle.policy.specs.Access.{rules_of}
 use Rattle.overview.specs.Pieces.{piece_bytes}
@@ -11,7 +11,7 @@ loop-to-preserved c =
     let l = c.loop-to in
     let p = c.args.policy.now in
     let there : l.to < p.compartments = omega (arith, c.compartments-to-end.ensures, c.loop-to-test.true) in
-    count_on (flow_text c.args.form (rules_of p) c.args.from) (string_bytes l.text) p.compartments l.to l.invariant there c.in-ok-push-flow.ensures
+    count_on (flow_text c.args.form (rules_of p) c.args.from) (string_bytes l.text) p.compartments l.to l.invariant there c.in_ok-push_flow.ensures
 
 pub returns : goal.returns
 returns c =

@@ -9,4 +9,4 @@ use Rattle.overview.proofs.users.push_user_edges.Goals as goal
 pub returns : goal.returns
 returns c =
     three_behind (string_bytes c.args.text.now) (piece_bytes (UserNode c.args.user)) (piece_bytes (WriteEdge c.args.user c.args.compartment)) (seen_bytes Graph c.args.user c.args.view.now)
-    c.in-ok-push.ensures c.in-ok-push-2.ensures c.in-ok-push-seen.ensures
+    c.in_ok-push.ensures c.in_ok-push-2.ensures c.in_ok-push_seen.ensures

@@ -9,4 +9,4 @@ use Rattle.overview.proofs.users.push_user_line.Goals as goal
 pub returns : goal.returns
 returns c =
     three_behind (string_bytes c.args.text.now) (piece_bytes (User c.args.user)) (seen_bytes Table c.args.user c.args.view.now) (piece_bytes (WritesIn c.args.compartment))
-    c.in-ok-push.ensures c.in-ok-push-seen.ensures c.in-ok-push-2.ensures
+    c.in_ok-push.ensures c.in_ok-push_seen.ensures c.in_ok-push-2.ensures

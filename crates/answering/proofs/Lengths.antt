@@ -1,5 +1,5 @@
 -- An answer row keeps its length when a query is asked, whatever memory holds.
-use Rattle.std.proofs.Common.{◌≡◌, ℕ, Bool, true, false, cond, ltb, List, length, Some, None, Option, sym, refl, ap, inl, inr}
+use Rattle.std.proofs.Common.{◌≡◌, ℕ, ltb, List, length, Some, None, Option, refl, inl, inr}
 use Rattle.policy.specs.Access.{contract_at, cache_at, memory_length}
 use Rattle.policy.specs.Views.{view_of}
 use Rattle.policy.specs.declared.Policy.{Policy}

@@ -6,8 +6,7 @@ use Rattle.policy.specs.declared.contract.Contract.{Contract}
 use Rattle.policy.specs.declared.place.Place.{Place}
 use Rattle.policy.specs.declared.Policy.{Policy}
 use Rattle.policy.specs.declared.refusal.Refusal.{Refusal}
-use Rattle.policy.specs.declared.refusal.Refusal.TheVariants.{OutOfBounds}
-use Rattle.policy.specs.Access.{place_at, capacities_of, contract_at, cache_at, memory_length}
+use Rattle.policy.specs.Access.{capacities_of, contract_at, cache_at, memory_length}
 use Rattle.policy.specs.Layout.{end_from, starts_from}
 use Rattle.policy.specs.Views.{view_of}
 use Rattle.policy.proofs.Proved.{compartments_apart}

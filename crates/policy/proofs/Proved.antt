@@ -1,14 +1,14 @@
 -- Proofs of the laws of policies.
-use Rattle.std.proofs.Common.{◌≡◌, ℕ, zero, suc, ◌+◌, ◌*◌, ◌<◌, ◌≤◌, Bool, true, false, cond, not, ◌&&◌, ◌||◌, eqb, ltb, leb, List, [], ◌∷◌, length, get_or, take, drop, Some, None, Decides, Option, sym, refl, ap, ◌∙◌, inl, inr, le_of_suc-le-suc, not-suc-le-zero, arith}
+use Rattle.std.proofs.Common.{◌≡◌, ℕ, zero, suc, ◌+◌, ◌<◌, ◌≤◌, Bool, true, false, not, ◌&&◌, ◌||◌, eqb, ltb, List, [], ◌∷◌, length, get_or, take, drop, Some, None, Decides, Option, sym, refl, inl, inr, le_of_suc-le-suc, not-suc-le-zero, arith}
 use Rattle.std.proofs.lemmas.List.{get_or-take, get_or-drop, length-take-le}
 use Rattle.std.proofs.lemmas.Bool.{and_parts, ltb-true, or_parts, or_cases, eqb-true, eqb-false, not-true, both_ways}
-use Rattle.std.proofs.lemmas.Bool.Decides.{nat_tests, Decides-below_and}
+use Rattle.std.proofs.lemmas.Bool.Decides.{Decides-below_and}
 use Rattle.std.specs.Option.{option_map}
 use Rattle.policy.specs.Access.{rules_of, capacities_of}
 use Rattle.policy.specs.Layout.{size, starts_from, end_from}
-use Rattle.policy.specs.Laws.{JudgedLowest, PoliciesValid, ReadsRules, FlowsBothWays, FlowsDown, CompartmentsApart, Valid, Same}
+use Rattle.policy.specs.Laws.{JudgedLowest, PoliciesValid, ReadsRules, FlowsBothWays, FlowsDown, CompartmentsApart}
 use Rattle.policy.specs.Numbers.{first, at_fault, places, bad_view, users_in, compartments_in, user_at, or_else}
-use Rattle.policy.specs.Rules.{Rules, has, sees, all_see, flows}
+use Rattle.policy.specs.Rules.{has, sees, all_see}
 use Rattle.policy.specs.Views.{view_of, distinct_below, valid, nobody}
 use Rattle.policy.specs.declared.Policy.{Policy}
 use Rattle.policy.specs.declared.refusal.Refusal.TheVariants.{OutOfBounds, BadView}

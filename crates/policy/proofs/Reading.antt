@@ -1,12 +1,11 @@
 -- Contracts that were read say what the numbers say: they are judged alike, and fit the tables.
-use Rattle.std.proofs.Common.{◌≡◌, ℕ, ◌+◌, ◌-◌, ◌<◌, ◌≤◌, Bool, true, false, not, ◌&&◌, leb, List, length, get_or, take, drop, None, sym, refl, ap, ◌∙◌, arith}
+use Rattle.std.proofs.Common.{◌≡◌, ℕ, ◌<◌, ◌≤◌, true, not, leb, List, length, get_or, take, drop, None, refl, ◌∙◌, arith}
 use Rattle.std.proofs.lemmas.List.{get_or-take, get_or-drop, length-take, length-drop, length-take-le}
 use Rattle.std.proofs.lemmas.Bool.{not-false, le-leb}
-use Rattle.policy.specs.Numbers.{first, bad_view, users_in, compartments_in, user_at, view_in, writes_in, Fit}
+use Rattle.policy.specs.Numbers.{first, bad_view, users_in, compartments_in, user_at, Fit}
 use Rattle.policy.specs.Policies.{all_valid, all_within}
 use Rattle.policy.specs.Read.{Says, Say}
-use Rattle.policy.specs.Rules.{has}
-use Rattle.policy.specs.Views.{view_of, distinct_below, valid, nobody}
+use Rattle.policy.specs.Views.{valid, nobody}
 use Rattle.policy.specs.declared.contract.Contract.{Contract}
 use Rattle.policy.proofs.Judging.{first_none, first_same}
 use Rattle.policy.proofs.Steps.{all_from}

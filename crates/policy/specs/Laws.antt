@@ -1,6 +1,6 @@
 -- What a policy promises, in the words of its subject.
-use Rattle.std.specs.Prelude.{◌≡◌, ℕ, ◌+◌, ◌*◌, ◌<◌, ◌≤◌, true, false, List, length, Some, None, ◌≢◌, slice_index}
-use Rattle.policy.specs.Access.{rules_of, capacities_of, memory_length}
+use Rattle.std.specs.Prelude.{◌≡◌, ℕ, ◌+◌, ◌<◌, ◌≤◌, true, false, List, length, Some, None, ◌≢◌, slice_index}
+use Rattle.policy.specs.Access.{rules_of, capacities_of}
 use Rattle.policy.specs.Layout.{size, starts_from, end_from}
 use Rattle.policy.specs.Numbers.{at_fault, places, bad_view, users_in, compartments_in, judged, rules_in}
 use Rattle.policy.specs.Read.{Reads}

@@ -1,6 +1,6 @@
 -- A policy in numbers: how many users and compartments there are; for each user eighteen numbers, how many compartments they
 -- see, sixteen places for them, and the one in which they write; and for each compartment its capacity.
-use Rattle.std.specs.Prelude.{ℕ, zero, suc, ◌+◌, ◌-◌, ◌*◌, ◌%◌, ◌<◌, ◌≤◌, Bool, true, false, cond, not, ◌&&◌, ◌||◌, List, [], ◌∷◌, length, take, drop, Some, None, Option, ◌==◌, nat_le, slice_index}
+use Rattle.std.specs.Prelude.{ℕ, zero, suc, ◌+◌, ◌-◌, ◌*◌, ◌%◌, ◌<◌, ◌≤◌, Bool, true, cond, not, ◌&&◌, ◌||◌, List, length, take, drop, Some, None, Option, ◌==◌, nat_le, slice_index}
 use Rattle.policy.specs.Rules.{Rules, has}
 use Rattle.policy.specs.Views.{distinct_below}
 use Rattle.policy.specs.declared.refusal.Refusal.{Refusal}

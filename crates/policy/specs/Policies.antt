@@ -1,5 +1,5 @@
 -- What a policy's fields say, and how its tables follow from them.
-use Rattle.std.specs.Prelude.{ℕ, ◌+◌, ◌*◌, ◌/◌, ◌%◌, Bool, true, ◌&&◌, List, [], ◌∷◌, map, length, get_or, nat_le, slice_index, slice_index_or}
+use Rattle.std.specs.Prelude.{ℕ, ◌/◌, ◌%◌, Bool, true, ◌&&◌, List, [], ◌∷◌, map, length, get_or, nat_le, slice_index, slice_index_or}
 use Rattle.policy.specs.Rules.{Rules, flows}
 use Rattle.policy.specs.Views.{view_of, valid, nobody}
 use Rattle.policy.specs.declared.contract.Contract.{Contract}

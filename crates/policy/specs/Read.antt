@@ -1,5 +1,5 @@
 -- What reading a policy gives: the rules that the numbers hold.
-use Rattle.std.specs.Prelude.{◌≡◌, ℕ, ◌+◌, ◌<◌, true, List, length, take, drop, Some, None, Ok, Err, Option, Result, slice_index_or}
+use Rattle.std.specs.Prelude.{◌≡◌, ℕ, ◌<◌, true, List, length, take, drop, Some, None, Ok, Err, Option, Result, slice_index_or}
 use Rattle.policy.specs.Policies.{all_valid}
 use Rattle.policy.specs.Views.{view_of, nobody}
 use Rattle.policy.specs.Numbers.{users_in, compartments_in, user_at, view_in, writes_in}

@@ -1,5 +1,5 @@
 -- What a user's contract says, and when it may stand.
-use Rattle.std.specs.Prelude.{ℕ, Bool, true, false, not, ◌&&◌, List, [], ◌∷◌, take, replicate, nat_lt}
+use Rattle.std.specs.Prelude.{ℕ, Bool, true, not, ◌&&◌, List, [], ◌∷◌, take, replicate, nat_lt}
 use Rattle.std.proofs.Common.{lit≤}
 use Rattle.policy.specs.Rules.{has}
 use Rattle.policy.specs.declared.contract.Contract.{Contract}

@@ -1,5 +1,5 @@
 -- Traces of calls on memory: what each request tells and leaves, by the definitions that the calls' contracts name.
-use Rattle.std.specs.Prelude.{ℕ, Bool, cond, List, [], ◌∷◌, length, Ok, Err, Result, ◌==◌}
+use Rattle.std.specs.Prelude.{ℕ, cond, List, [], ◌∷◌, length, Ok, Err, Result, ◌==◌}
 use Rattle.answering.specs.Asked.{asked_told, asked_memory, asked_row}
 use Rattle.compartment.specs.Holding.{Brought}
 use Rattle.model.specs.Model.{Call, lend, Response, done, refused, answered, who, relevant}

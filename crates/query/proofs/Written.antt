@@ -1,5 +1,5 @@
 -- What the code tells on rows that rise is the model's answer, at the model's cost.
-use Rattle.std.proofs.Common.{◌≡◌, ℕ, ◌+◌, ◌*◌, ◌/◌, ◌%◌, ◌^◌, ◌≤◌, true, false, ◌&&◌, eqb, leb, List, [], ◌∷◌, map, length, sym, refl, ap, ◌∙◌, inl, inr, arith}
+use Rattle.std.proofs.Common.{◌≡◌, ℕ, ◌+◌, ◌*◌, ◌%◌, ◌^◌, ◌≤◌, true, false, ◌&&◌, eqb, leb, List, [], ◌∷◌, map, length, sym, refl, ap, ◌∙◌, inl, inr, arith}
 use Rattle.std.proofs.lemmas.List.{length-map}
 use Rattle.std.proofs.lemmas.Bool.{cases_Bool, and_parts, and_from, le-leb, or_cases, eqb-true, both_ways}
 use Rattle.rows.specs.declared.Row.{Row}
@@ -14,7 +14,7 @@ use Rattle.policy.specs.Rules.{has}
 use Rattle.query.specs.declared.Query.TheVariants.{Rows, Total, Shared}
 use Rattle.query.specs.Answers.{lists, list, lists_of, count_all, sum_all}
 use Rattle.query.specs.Looks.{room}
-use Rattle.query.specs.Numbers.{count, counts, count_in, amount_in, cut, common, lengths, fits, all_rows, written, rows_outcome, total_outcome, list_outcome, unseen}
+use Rattle.query.specs.Numbers.{count, counts, count_in, amount_in, cut, common, lengths, fits, all_rows, rows_outcome, total_outcome, list_outcome, unseen}
 use Rattle.query.specs.Laws.{Kept, parts_of, AnswersTold, RowsHoldAnswers, NeverRefused, LentIsSeen, CostsAreRows}
 use Rattle.query.proofs.Views.{has_head, has_tail}
 use Rattle.query.proofs.Back.{lists_back, list_back}

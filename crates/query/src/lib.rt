@@ -74,11 +74,11 @@ mod tests {
             return Ok(());
         };
         let rows = Query::Rows { range: ALL };
-        assert!(rt; looks_at(contract, rows).compartments() == [2, 0]);
+        assert!(rt; looks_at(contract, rows).compartments() == [2, 0].as_slice());
         assert_eq!(rt; needed(&policy, contract, rows), Some(112));
         let (a, b, range) = (0, 2, ALL);
         let seen = Query::Shared { a, b, range };
-        assert!(rt; looks_at(contract, seen).compartments() == [0, 2]);
+        assert!(rt; looks_at(contract, seen).compartments() == [0, 2].as_slice());
         assert_eq!(rt; needed(&policy, contract, seen), Some(52));
         let b = 1;
         let unseen = Query::Shared { a, b, range };

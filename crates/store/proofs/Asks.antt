@@ -1,6 +1,6 @@
 -- A query follows the model.
-use Rattle.std.proofs.Common.{◌≡◌, ℕ, zero, suc, ◌+◌, ◌-◌, ◌*◌, ◌<◌, ◌≤◌, min, Bool, true, false, cond, eqb, ltb, leb, ◌⊎◌, List, [], ◌∷◌, ◌++◌, map, length, get_or, take, drop, Some, None, Option, sym, refl, ap, ◌∙◌, subst, inl, inr, arith}
-use Rattle.answering.specs.Asked.{asked_memory, with_cache, cache_part}
+use Rattle.std.proofs.Common.{◌≡◌, ℕ, zero, suc, ◌+◌, ◌-◌, ◌<◌, ◌≤◌, min, true, false, ltb, ◌⊎◌, List, [], ◌∷◌, length, take, Some, None, Option, sym, refl, ◌∙◌, inl, inr, arith}
+use Rattle.answering.specs.Asked.{with_cache}
 use Rattle.answering.specs.Places.{part_at, version_at, fault_at}
 use Rattle.answering.specs.Tie as tie
 use Rattle.answering.proofs.Tied.{queries_with_row}
@@ -9,15 +9,14 @@ use Rattle.cache.specs.declared.Kept.{Kept}
 use Rattle.cache.proofs.Stored.{length_held}
 use Rattle.compartment.specs.Holding as compartment
 use Rattle.compartment.specs.Parts.{limit}
-use Rattle.model.specs.Model.{State, Call, lend, accepted, response, step, remembered, entry, look_up}
+use Rattle.model.specs.Model.{State, lend, accepted, response, step, remembered, entry, look_up}
 use Rattle.model.proofs.Changes.{only_writers}
-use Rattle.policy.specs.Access.{rules_of, place_in, place_at, cache_at}
+use Rattle.policy.specs.Access.{rules_of, place_in, cache_at}
 use Rattle.policy.specs.Rules.{sees}
-use Rattle.policy.specs.Views.{nobody, view_of}
+use Rattle.policy.specs.Views.{nobody}
 use Rattle.policy.specs.declared.Policy.{Policy}
 use Rattle.policy.proofs.Proved.{compartments_apart, seen_there, policies_valid}
 use Rattle.query.specs.declared.Query.{Query}
-use Rattle.query.specs.Laws as query
 use Rattle.request.specs.declared.Request.TheVariants.{Query as Ask}
 use Rattle.rows.specs.declared.Row.{Row}
 use Rattle.rows.specs.Halving.{flat}

@@ -1,15 +1,15 @@
 -- A changed part that holds other rows gives a changed memory that holds the state with these rows.
-use Rattle.std.proofs.Common.{◌≡◌, ℕ, suc, ◌+◌, ◌-◌, ◌*◌, ◌<◌, ◌≤◌, Bool, true, false, cond, eqb, ltb, ◌⊎◌, List, ◌++◌, length, take, drop, is_ok, Ok, Err, Result, sym, refl, ap, ◌∙◌, subst, inl, inr, arith}
+use Rattle.std.proofs.Common.{◌≡◌, ℕ, suc, ◌+◌, ◌-◌, ◌<◌, ◌≤◌, true, false, cond, ◌⊎◌, List, length, drop, is_ok, Ok, Err, Result, sym, refl, ap, ◌∙◌, inl, inr, arith}
 use Rattle.compartment.specs.Holding as compartment
-use Rattle.model.specs.Model.{State, Response, done, refused, answered, accepted, changed, with_at}
-use Rattle.policy.specs.Access.{rules_of, capacities_of, place_in, memory_length}
+use Rattle.model.specs.Model.{State, Response, done, refused, answered, accepted, changed}
+use Rattle.policy.specs.Access.{rules_of, place_in}
 use Rattle.policy.specs.declared.Policy.{Policy}
 use Rattle.policy.specs.declared.place.Place.{Place}
 use Rattle.policy.specs.declared.refusal.Refusal.{Refusal}
 use Rattle.policy.proofs.Proved.{compartments_apart}
 use Rattle.rows.specs.declared.Row.{Row}
 use Rattle.std.proofs.lemmas.List.{take-append-drop}
-use Rattle.std.proofs.lemmas.Bool.{cases_Bool, cases_eq, cases_lt, eq-eqb, ne_eqb, cond-true, cond-false}
+use Rattle.std.proofs.lemmas.Bool.{cases_Bool, cases_eq, cases_lt, eq-eqb, ne_eqb}
 use Rattle.store.specs.Memory.{end, part, with_part}
 use Rattle.store.specs.Simulation.{Holds, as_result, cache_start}
 use Rattle.store.proofs.Parts.{kept_length, part_here, part_apart}

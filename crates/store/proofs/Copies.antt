@@ -1,19 +1,18 @@
 -- A copy follows the model.
-use Rattle.std.proofs.Common.{◌≡◌, ℕ, suc, ◌+◌, ◌-◌, ◌*◌, ◌<◌, ◌≤◌, Bool, true, false, cond, ◌&&◌, eqb, ltb, leb, ◌⊎◌, List, [], ◌∷◌, ◌++◌, length, get_or, take, drop, is_ok, Some, None, Ok, Err, sym, refl, ap, ◌∙◌, inl, inr, arith}
+use Rattle.std.proofs.Common.{◌≡◌, ℕ, suc, ◌+◌, ◌-◌, ◌*◌, ◌<◌, ◌≤◌, true, cond, ◌&&◌, eqb, ltb, leb, ◌⊎◌, List, ◌∷◌, length, take, drop, is_ok, Some, Ok, sym, refl, ap, ◌∙◌, inl, inr, arith}
 use Rattle.compartment.specs.Holding as compartment
 use Rattle.compartment.specs.Parts.{limit, raise_told, raise_after}
 use Rattle.compartment.proofs.Held.{check_counts, done_when, raise_tells, raise_leaves, raise_holds, raise_refused, refilled_holds}
-use Rattle.merge.specs.Laws.{Stands, rows_at, copying_range}
+use Rattle.merge.specs.Laws.{Stands, copying_range}
 use Rattle.merge.specs.Numbers.{plan, merged_into}
 use Rattle.merge.proofs.Proved.{plan_is_range, range_is_put_all}
-use Rattle.model.specs.Model.{State, Response, accepted, changed, filling}
-use Rattle.policy.specs.Access.{rules_of, place_in, written_in, place_at, written_at, may_copy, memory_length}
+use Rattle.model.specs.Model.{State, accepted, changed, filling}
+use Rattle.policy.specs.Access.{rules_of, place_in, may_copy, memory_length}
 use Rattle.policy.specs.Rules.{sees, flows}
 use Rattle.policy.specs.declared.Policy.{Policy}
 use Rattle.policy.specs.declared.refusal.Refusal.TheVariants.{NoRoom, LastVersion}
-use Rattle.policy.proofs.Proved.{compartments_apart, seen_there, written_there}
+use Rattle.policy.proofs.Proved.{seen_there, written_there}
 use Rattle.rows.specs.declared.KeyRange.{KeyRange}
-use Rattle.rows.specs.declared.Row.{Row}
 use Rattle.rows.specs.Halving.{flat}
 use Rattle.rows.specs.Numbers.{in_front}
 use Rattle.rows.specs.Rows.{put_all, rows_in}
@@ -23,7 +22,6 @@ use Rattle.std.proofs.lemmas.Bool.{cases_Bool, and_parts, ltb-true, lt-ltb, le-l
 use Rattle.store.specs.Memory.{end, part, with_part}
 use Rattle.store.specs.Calls.{counts_told, rows_from, between_told, between_memory, itself_told, itself_memory}
 use Rattle.store.specs.Simulation.{Holds, as_result, CopyFollows}
-use Rattle.store.specs.declared.copying.counts.Counts.{Counts}
 use Rattle.store.proofs.Changing.{change_holds, apart, fits, ok_is}
 use Rattle.store.proofs.Following.{as_change}
 use Rattle.store.proofs.Parts.{kept_length, part_here, part_apart}

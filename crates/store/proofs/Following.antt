@@ -1,5 +1,5 @@
 -- The calls follow the model.
-use Rattle.std.proofs.Common.{◌≡◌, ℕ, suc, ◌+◌, ◌-◌, ◌*◌, ◌<◌, ◌≤◌, Bool, true, false, cond, ltb, leb, List, [], ◌++◌, length, take, drop, replicate, is_ok, Ok, Err, Result, sym, refl, ap, ◌∙◌, inl, inr, arith}
+use Rattle.std.proofs.Common.{◌≡◌, ℕ, suc, ◌+◌, ◌-◌, ◌*◌, ◌<◌, ◌≤◌, Bool, true, false, cond, ltb, leb, List, ◌++◌, length, take, drop, replicate, is_ok, Ok, Err, Result, sym, refl, ap, ◌∙◌, inl, inr, arith}
 use Rattle.compartment.specs.Parts.{limit, write_told, write_after, delete_told, delete_after}
 use Rattle.compartment.specs.Holding as compartment
 use Rattle.compartment.proofs.Held.{empty_holds, write_tells, write_holds, write_refused, delete_tells, delete_holds, delete_refused}

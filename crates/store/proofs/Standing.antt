@@ -1,5 +1,5 @@
 -- Rows of a compartment where they stand in memory, and a part that is filled again behind its two numbers.
-use Rattle.std.proofs.Common.{◌≡◌, ℕ, suc, ◌+◌, ◌-◌, ◌*◌, ◌<◌, ◌≤◌, true, leb, List, [], ◌∷◌, ◌++◌, length, get_or, take, drop, sym, refl, ap, ◌∙◌, inl, inr, arith}
+use Rattle.std.proofs.Common.{◌≡◌, ℕ, ◌+◌, ◌-◌, ◌*◌, ◌≤◌, true, leb, List, [], ◌∷◌, ◌++◌, length, get_or, take, drop, sym, ap, ◌∙◌, inl, inr, arith}
 use Rattle.compartment.specs.Holding as compartment
 use Rattle.compartment.proofs.Held.{rows_are_flat}
 use Rattle.merge.specs.Laws.{Stands}
@@ -7,11 +7,11 @@ use Rattle.policy.specs.declared.place.Place.{Place}
 use Rattle.rows.specs.declared.KeyRange.{KeyRange}
 use Rattle.rows.specs.declared.Row.{Row}
 use Rattle.rows.specs.Halving.{flat}
-use Rattle.rows.specs.Rows.{Rising, amount_of, put_all, rows_in, in_range}
+use Rattle.rows.specs.Rows.{Rising, put_all, rows_in, in_range}
 use Rattle.rows.proofs.Copied.{amount_of_copied}
 use Rattle.rows.proofs.Keys.{same_rows}
 use Rattle.rows.proofs.Orders.{rising_put_all}
-use Rattle.std.proofs.lemmas.List.{append_assoc, take_at, drop_at, drop-take, drop-drop, take-take, drop-append-le, get_or-take, get_or-drop, length_push, length-append}
+use Rattle.std.proofs.lemmas.List.{append_assoc, take_at, drop_at, drop-take, drop-drop, take-take, drop-append-le, get_or-take, get_or-drop, length-append}
 use Rattle.std.proofs.lemmas.Bool.{cases_Bool, cond-true, le-leb}
 use Rattle.std.proofs.lemmas.Bool.Decides.{nat_tests}
 use Rattle.store.specs.Memory.{end, part}

@@ -1,5 +1,5 @@
 -- Memory that holds a state of the model, and that the calls follow the model.
-use Rattle.std.specs.Prelude.{◌≡◌, ℕ, ◌+◌, ◌*◌, ◌<◌, ◌≤◌, List, [], length, take, drop, Ok, Err, Result}
+use Rattle.std.specs.Prelude.{◌≡◌, ℕ, ◌+◌, ◌*◌, ◌<◌, ◌≤◌, List, length, take, drop, Ok, Err, Result}
 use Rattle.answering.specs.Asked.{asked_told, asked_memory, asked_row}
 use Rattle.answering.specs.Tie.{Tells, row_with}
 use Rattle.cache.specs.Entries.{held, OfView}

@@ -4,7 +4,7 @@ use Rattle.rows.specs.declared.Row.{Row}
 use Rattle.policy.specs.Rules.{Rules, Sound}
 use Rattle.policy.specs.declared.refusal.Refusal.TheVariants.{NoRoom}
 use Rattle.model.specs.Example.{three}
-use Rattle.model.specs.Model.{State, Call, Response, purge}
+use Rattle.model.specs.Model.{Call, Response, purge}
 use Rattle.talking.specs.Frame.{Machine, told, Talks}
 use Rattle.talking.specs.Talks.{apart, together, row, filled, copying, RowNumbersTalk, OneCacheTalks, OneCapacityTalks, AllowedIfEmptyTalks, LookingFirstTalks, AllExaminedTalks, OneOfEachKeyTalks, SomeIdleCountTalks, HalfACopyIsPut}
 

@@ -10,7 +10,7 @@ use Rattle.request.specs.declared.Request.{Request}
 use Rattle.request.specs.declared.Request.TheVariants.{Write, Copy, Query as Ask}
 use Rattle.model.specs.Example.{three}
 use Rattle.model.specs.Model.{State, Call, lend, done, refused, answered}
-use Rattle.talking.specs.Frame.{Machine, run, Talks, AllOrNone}
+use Rattle.talking.specs.Frame.{run, Talks, AllOrNone}
 use Rattle.talking.specs.Stores.{row_numbers, one_cache, one_capacity, allowed_if_empty, all_examined, one_of_each_key, some_idle_count, half_a_copy}
 
 -- two users with a compartment each, for one row, which the other doesn't see

@@ -1,8 +1,7 @@
-use Rattle.std.proofs.Common.{◌≡◌, ℕ, ◌-◌, true, length, get_or, take, sym, refl, ap, ◌∙◌, arith}
+use Rattle.std.proofs.Common.{◌≡◌, ◌-◌, true, take, sym, refl, arith}
 use Rattle.std.proofs.lemmas.List.{length-take, length-take-le}
-use Rattle.policy.specs.Layout.{starts_from, end_from}
 use Rattle.policy.specs.Numbers.{users_in, compartments_in}
-use Rattle.policy.specs.Policies.{all_within, flow_table}
+use Rattle.policy.specs.Policies.{all_within}
 use Rattle.policy.proofs.Reading.{capacities_within}
 use Rattle.policy.proofs.Steps.{end_within}
 use Rattle.policy.proofs.Policy.assemble.Goals as goal

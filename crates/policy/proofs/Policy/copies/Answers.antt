@@ -1,6 +1,6 @@
 use Rattle.std.proofs.Common.{◌≡◌, true, sym, ◌∙◌, arith}
 use Rattle.policy.specs.Access.{rules_of}
-use Rattle.policy.specs.Rules.{sees, has}
+use Rattle.policy.specs.Rules.{sees}
 use Rattle.policy.proofs.Proved.{seen_there, written_there}
 use Rattle.policy.proofs.Policy.copies.Goals as goal
 

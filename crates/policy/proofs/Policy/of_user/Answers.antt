@@ -1,4 +1,4 @@
-use Rattle.std.proofs.Common.{◌≡◌, get_or, take, sym, ap, ◌∙◌, arith}
+use Rattle.std.proofs.Common.{sym, ap, ◌∙◌, arith}
 use Rattle.std.proofs.lemmas.List.{get_or-take, get_or_default}
 use Rattle.policy.specs.Views.{view_of, nobody}
 use Rattle.policy.specs.declared.contract.Contract.{Contract}

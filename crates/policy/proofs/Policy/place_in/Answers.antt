@@ -1,7 +1,5 @@
-use Rattle.std.proofs.Common.{◌≡◌, get_or, sym, refl, ap, ◌∙◌, arith}
+use Rattle.std.proofs.Common.{get_or, sym, refl, ap, ◌∙◌, arith}
 use Rattle.std.proofs.lemmas.List.{get_or-take}
-use Rattle.policy.specs.Access.{place_in, Inside}
-use Rattle.policy.specs.declared.place.Place.{Place}
 use Rattle.policy.proofs.Proved.{compartments_apart}
 use Rattle.policy.proofs.Policy.place_in.Goals as goal
 

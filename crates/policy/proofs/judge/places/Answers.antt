@@ -1,4 +1,4 @@
-use Rattle.std.proofs.Common.{sym, ap, rules}
+use Rattle.std.proofs.Common.{sym, rules}
 use Rattle.policy.proofs.Judging.{fit_from_none}
 use Rattle.policy.proofs.judge.places.Goals as goal
 

@@ -1,5 +1,5 @@
 -- The header may be cut short.
-use Rattle.std.proofs.Common.{◌≡◌, ◌∙◌, arith}
+use Rattle.std.proofs.Common.{◌∙◌, arith}
 use Rattle.std.proofs.lemmas.List.{take_rest}
 use Rattle.words.proofs.Clipped.{drop_clipped}
 use Rattle.words.proofs.answers.behind_header.Goals as goal

@@ -1,5 +1,5 @@
 -- Lists and a list are read out of the row.
-use Rattle.std.proofs.Common.{string_bytes, arith}
+use Rattle.std.proofs.Common.{arith}
 use Rattle.std.proofs.lemmas.Result.{IfOk-weaker}
 use Rattle.words.proofs.Pieces.{lists_read, list_read}
 use Rattle.words.proofs.answers.push_answer.Goals as goal

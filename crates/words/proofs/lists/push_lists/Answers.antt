@@ -1,5 +1,5 @@
 -- A turn writes one list of those that are left.
-use Rattle.std.proofs.Common.{◌≡◌, ◌+◌, ◌++◌, map, length, drop, string_bytes, sym, ap, ◌∙◌}
+use Rattle.std.proofs.Common.{◌+◌, ◌++◌, map, length, drop, string_bytes, sym, ap, ◌∙◌}
 use Rattle.query.specs.Numbers.{split}
 use Rattle.rows.specs.Halving.{rows_of}
 use Rattle.std.proofs.lemmas.List.{take_rest, at_drop_all}

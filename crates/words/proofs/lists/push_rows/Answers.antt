@@ -1,5 +1,5 @@
 -- A turn writes one row of those that are left.
-use Rattle.std.proofs.Common.{◌≡◌, ◌+◌, ◌*◌, ◌++◌, map, drop, string_bytes, sym, ap, ◌∙◌}
+use Rattle.std.proofs.Common.{◌+◌, ◌*◌, ◌++◌, map, drop, string_bytes, sym, ap, ◌∙◌}
 use Rattle.rows.specs.Halving.{rows_of}
 use Rattle.rows.proofs.Memory.{row_at, rows_more, rows_none}
 use Rattle.words.specs.Blanks.{onward}

@@ -1,7 +1,6 @@
-use Rattle.std.proofs.Common.{◌≡◌, ◌+◌, false, get_or, drop, arith}
+use Rattle.std.proofs.Common.{◌+◌, arith}
 use Rattle.std.proofs.lemmas.List.{take_rest}
 use Rattle.std.proofs.lemmas.Bool.Decides.{nat_tests}
-use Rattle.policy.specs.Rules.{has}
 use Rattle.policy.proofs.Steps.{distinct_more, distinct_all}
 use Rattle.policy.proofs.contract.judge.distinct.Goals as goal
 use Rattle.policy.proofs.contract.judge.distinct.Goals.{then-view-i-via-then-view-i, then-view-i-via-else-view-i+then-contains}

@@ -41,7 +41,7 @@ FoundWasKept = (query : Query) (versions : List ℕ) (kept : Kept) (n : ℕ) (en
     look_up query versions (keep_all entries (replicate (24 * n) 0)) ≡ Some kept →
     Any (λ e. (query ≡ e.query) × (sixteen versions ≡ sixteen e.versions) × (kept ≡ e.kept)) (take n (reverse entries))
 
--- MEMORY HOLDS ENTRIES. A look_up in so many places that hold entries and zeros is one among the entries,
+-- MEMORY HOLDS ENTRIES. A look-up in so many places that hold entries and zeros is one among the entries,
 abbrev pub LookUpIsFind : Type 0
 LookUpIsFind = (query : Query) (versions : List ℕ) (n : ℕ) (entries : List Entry) → look_up query versions (held n entries) ≡ find query versions entries
 

@@ -1,5 +1,5 @@
 -- One item on along the calls: what is printed and what is left.
-use Rattle.std.proofs.Common.{◌≡◌, ℕ, List, ◌∷◌, ◌++◌, length, sym, refl, ◌∙◌}
+use Rattle.std.proofs.Common.{◌≡◌, ℕ, List, ◌∷◌, ◌++◌, length, ◌∙◌}
 use Rattle.policy.specs.declared.Policy.{Policy}
 use Rattle.std.proofs.lemmas.List.{append_assoc}
 use Rattle.playback.specs.Along.{turn_text, turn_memory, turn_row, text_along, memory_along}

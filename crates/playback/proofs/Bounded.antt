@@ -1,5 +1,5 @@
 -- What is read from bytes has keys and amounts below 2^32.
-use Rattle.std.proofs.Common.{◌≡◌, ℕ, zero, suc, cond, eqb, ltb, List, [], ◌∷◌, length, get_or, drop, Some, None, Ok, Err, Option, Result, sym, refl, inl, inr, arith}
+use Rattle.std.proofs.Common.{◌≡◌, ℕ, zero, suc, eqb, ltb, List, length, get_or, drop, Some, None, Ok, Err, Option, Result, refl, inl, inr}
 use Rattle.policy.specs.declared.refusal.Refusal.{Refusal}
 use Rattle.promises.specs.Traces.{possible}
 use Rattle.request.specs.Decoded.{decoded}
@@ -12,9 +12,8 @@ use Rattle.std.specs.List.{AllByRecursion as All}
 use Rattle.playback.specs.Items.{item_in, items_by, items}
 use Rattle.playback.specs.declared.items.Item.{Item}
 use Rattle.playback.specs.declared.items.Item.TheVariants as item
-use Rattle.playback.specs.declared.items.Taken.{Taken}
 use Rattle.wire.specs.Bytes.{numbers_in, size}
-use Rattle.wire.specs.NextRequest.{next_in, next_by, whole, place_refused, place_at_fault, request_layout}
+use Rattle.wire.specs.NextRequest.{next_in, next_by, whole, request_layout}
 use Rattle.wire.specs.declared.item.Next.{Next}
 use Rattle.wire.specs.declared.item.Next.TheVariants as next
 use Rattle.wire.specs.declared.layout.Layout.{Layout}

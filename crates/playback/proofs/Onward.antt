@@ -3,7 +3,6 @@ use Rattle.std.proofs.Common.{◌≡◌, ℕ, zero, suc, ◌+◌, ◌-◌, ◌<�
 use Rattle.std.proofs.lemmas.List.{drop_all, drop-drop, length-drop, take_rest}
 use Rattle.std.proofs.lemmas.Bool.{cond-true, cond-false, eq-eqb, ne_eqb, cases_lt}
 use Rattle.playback.specs.Items.{item_in, refused, items_by, items, ended_by, ended}
-use Rattle.playback.specs.declared.items.Item.{Item}
 use Rattle.playback.specs.declared.items.Taken.{Taken}
 use Rattle.wire.specs.NextRequest.{next_in, Takes}
 use Rattle.wire.specs.declared.item.Next.{Next}

@@ -1,10 +1,9 @@
 -- A trace on memory that is opened: what is printed, left and how it ends, by the numbers of its policy.
-use Rattle.std.proofs.Common.{◌≡◌, ℕ, ◌+◌, ◌*◌, ◌≤◌, Bool, true, false, cond, ltb, List, [], ◌++◌, length, take, drop, replicate, Some, None, Ok, Err, Option, Result, sym, refl, ap, ◌∙◌, subst, inl, inr, arith}
+use Rattle.std.proofs.Common.{◌≡◌, ℕ, Bool, false, cond, ltb, List, ◌++◌, length, replicate, Some, None, Ok, Option, sym, refl, ap, ◌∙◌, subst, inl, inr, arith}
 use Rattle.model.specs.Model.{empty}
 use Rattle.policy.specs.Access.{rules_of, memory_length}
-use Rattle.policy.specs.Laws.{Same, Valid}
-use Rattle.policy.specs.Layout.{end_from}
-use Rattle.policy.specs.Numbers.{rules_in, compartments_in}
+use Rattle.policy.specs.Laws.{Same}
+use Rattle.policy.specs.Numbers.{rules_in}
 use Rattle.policy.specs.Read.{Reads}
 use Rattle.policy.specs.declared.Policy.{Policy}
 use Rattle.policy.specs.declared.refusal.Refusal.{Refusal}
@@ -16,8 +15,8 @@ use Rattle.store.specs.Calls.{short, opened, opened_told}
 use Rattle.store.proofs.Following.{open_holds}
 use Rattle.playback.specs.Along.{text_along, memory_along, opened_text, opened_memory, opened_end}
 use Rattle.playback.specs.Items.{items, ended, items_of, ended_of, requests_of}
-use Rattle.playback.specs.Played.{told_text, text_by, end_by, memory_for, short_of, Purged, LeftBy}
-use Rattle.playback.specs.Printed.{Line, lent, lines, heard_by, text}
+use Rattle.playback.specs.Played.{told_text, text_by, end_by, memory_for, short_of, LeftBy}
+use Rattle.playback.specs.Printed.{Line, lent, heard_by, text}
 use Rattle.playback.specs.declared.audience.Audience.{Audience}
 use Rattle.playback.specs.declared.audience.Audience.TheVariants.{One}
 use Rattle.playback.proofs.Bounded.{items_bounded}

@@ -1,5 +1,5 @@
 -- What is relevant to a user, as the policy's code decides it.
-use Rattle.std.proofs.Common.{◌≡◌, ℕ, Bool, true, false, eqb, ltb, Some, None, sym, refl, ◌∙◌, inl, inr, arith}
+use Rattle.std.proofs.Common.{◌≡◌, ℕ, Bool, true, false, eqb, ltb, Some, sym, refl, ◌∙◌, inl, inr, arith}
 use Rattle.model.specs.Model.{who, asks, there, lend, relevant}
 use Rattle.policy.specs.Access.{rules_of, may_see, written_at}
 use Rattle.policy.specs.Rules.{Rules, sees}

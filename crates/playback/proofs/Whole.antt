@@ -1,5 +1,5 @@
 -- What is printed along the calls is what the model tells; and for one user, what the whole trace tells them.
-use Rattle.std.proofs.Common.{◌≡◌, ℕ, ◌≤◌, Bool, true, false, cond, eqb, List, [], ◌∷◌, ◌++◌, length, replicate, sym, refl, ap, ◌∙◌, subst, inl, inr}
+use Rattle.std.proofs.Common.{◌≡◌, ℕ, true, false, eqb, List, [], ◌∷◌, length, replicate, sym, refl, ap, ◌∙◌, subst, inl, inr}
 use Rattle.compartment.specs.Parts.{limit}
 use Rattle.model.specs.Model.{State, empty, lend, response, step, relevant}
 use Rattle.model.proofs.Interference as interference
@@ -10,7 +10,7 @@ use Rattle.policy.specs.Laws.{Same, Valid}
 use Rattle.policy.specs.Rules.{Rules, Sound}
 use Rattle.policy.specs.declared.Policy.{Policy}
 use Rattle.promises.specs.Traces.{leaves, after, purged}
-use Rattle.promises.proofs.Proved.{Steps, steps}
+use Rattle.promises.proofs.Proved.{steps}
 use Rattle.promises.proofs.Served.{tells_served, leaves_served}
 use Rattle.request.specs.declared.Request.{Request}
 use Rattle.answering.proofs.Lengths.{asked_keeps_length}
@@ -19,7 +19,7 @@ use Rattle.std.proofs.lemmas.Bool.{cases_Bool}
 use Rattle.std.specs.List.{AllByRecursion as All}
 use Rattle.store.specs.Served.{served_row, served_memory, heard}
 use Rattle.store.specs.Simulation.{Holds}
-use Rattle.playback.specs.Along.{item_told, item_memory, item_row, item_text, turn_text, turn_memory, turn_row, text_along, memory_along}
+use Rattle.playback.specs.Along.{item_told, item_memory, item_row, text_along, memory_along}
 use Rattle.playback.specs.Items.{from}
 use Rattle.playback.specs.Played.{made_in}
 use Rattle.playback.specs.Printed.{lent, item_tells, item_step, Line, lines, hears, heard_by, concerns, concerns_one, concerning, text}
@@ -28,7 +28,6 @@ use Rattle.playback.specs.declared.audience.Audience.TheVariants.{Everyone, One}
 use Rattle.playback.specs.declared.items.Item.{Item}
 use Rattle.playback.specs.declared.items.Item.TheVariants as item
 use Rattle.playback.proofs.Bounded.{Bounded}
-use Rattle.words.specs.Words.{line}
 
 -- ALONG THE CALLS, AS THE MODEL
 

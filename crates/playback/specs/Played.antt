@@ -1,5 +1,5 @@
 -- What playing a trace prints and leaves, and how it ends.
-use Rattle.std.specs.Prelude.{◌≡◌, ℕ, ◌+◌, ◌*◌, cond, List, [], ◌∷◌, length, take, drop, replicate, Some, None, Option, nat_lt}
+use Rattle.std.specs.Prelude.{◌≡◌, ℕ, ◌+◌, ◌*◌, cond, List, [], ◌∷◌, take, drop, replicate, Some, None, Option, nat_lt}
 use Rattle.model.specs.Model.{empty}
 use Rattle.policy.specs.Layout.{end_from}
 use Rattle.policy.specs.Numbers.{judged, rules_in, users_in, compartments_in, user_at}
@@ -12,7 +12,7 @@ use Rattle.store.specs.Calls.{opened}
 use Rattle.playback.specs.Items.{items_of, ended_of}
 use Rattle.playback.specs.Printed.{lent, lines, heard_by, text}
 use Rattle.playback.specs.declared.audience.Audience.{Audience}
-use Rattle.playback.specs.declared.audience.Audience.TheVariants.{Everyone, One}
+use Rattle.playback.specs.declared.audience.Audience.TheVariants.{Everyone}
 use Rattle.playback.specs.declared.items.Item.{Item}
 use Rattle.playback.specs.declared.items.Item.TheVariants.{Request, NoRequest}
 use Rattle.wire.specs.PolicyNumbers.{policy_of}

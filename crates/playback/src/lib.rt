@@ -1,5 +1,6 @@
 // Playing a trace, for everyone or purged for one user: what is told, line by line, and how the trace ended.
 #![tactic(auto)]
+
 ghost use Rattle.std.specs.Prelude.{◌≡◌, length, IfOk, string_bytes, OnOk};
 ghost use Rattle.playback.specs.Played.{text_by, text_of, end_by, end_of, opening_with, LeftBy};
 ghost use Rattle.playback.specs.declared.audience.Audience.TheVariants.{One};

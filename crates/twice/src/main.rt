@@ -1,5 +1,6 @@
 // Plays random traces whole and purged for every user, and compares all that the user is told: responses and answer rows.
 #![tactic(auto)]
+
 mod counts;
 mod event;
 mod mix;

@@ -1,4 +1,3 @@
-use Rattle.std.proofs.Common.{◌≡◌}
 use Rattle.std.proofs.lemmas.Bool.{ne_eqb}
 use Rattle.playback.specs.Printed.{lent}
 use Rattle.playback.proofs.Relevance.{change_of_others}

@@ -1,4 +1,4 @@
-use Rattle.std.proofs.Common.{◌≡◌, ℕ, min, length, ap, ◌∙◌}
+use Rattle.std.proofs.Common.{ℕ, min, length, ap, ◌∙◌}
 use Rattle.std.proofs.lemmas.Result.{IfOk-weaker}
 use Rattle.playback.proofs.Onward.{cut_behind}
 use Rattle.playback.proofs.Opened.{long_enough, behind_text, behind_memory, behind_end}

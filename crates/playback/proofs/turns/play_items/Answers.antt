@@ -1,4 +1,4 @@
-use Rattle.std.proofs.Common.{◌≡◌, ℕ, suc, ◌-◌, length, drop, string_bytes, sym, refl, ◌∙◌, arith}
+use Rattle.std.proofs.Common.{◌≡◌, suc, ◌-◌, length, drop, string_bytes, sym, refl, ◌∙◌, arith}
 use Rattle.std.proofs.lemmas.List.{append-nil, length-drop, take_rest}
 use Rattle.playback.proofs.Alongside.{text_on, memory_on}
 use Rattle.playback.proofs.Onward.{items_none, ended_none, some_left, items_on, items_end, ended_on, ended_end, takes_some}

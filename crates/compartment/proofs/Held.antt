@@ -3,7 +3,7 @@ use Rattle.std.proofs.Common.{◌≡◌, ℕ, suc, ◌+◌, ◌*◌, ◌<◌, �
 use Rattle.std.proofs.lemmas.Bool.Decides.{nat_tests}
 use Rattle.std.proofs.lemmas.List.{length-replicate}
 use Rattle.std.proofs.lemmas.Bool.{cases_Bool, true≢false, false≢true, ltb-true, leb-true, lt-ltb, le-leb, cond-true, cond-false}
-use Rattle.std.specs.List.{AllByRecursion as All}
+use Rattle.std.specs.List.{AllByRecursion}
 use Rattle.rows.specs.declared.Row.{Row}
 use Rattle.rows.specs.Rows.{Rising, put, without, has_key}
 use Rattle.rows.specs.Halving.{flat}
@@ -98,7 +98,7 @@ module _ (c version : ℕ) (rows : List Row) (part : List ℕ) (h : Holds c vers
       ∙ ap (λ l. take (2 * length rows) l) rows_are
       ∙ take_flat rows h.rest
 
-  refilled : (new : List Row) (after : List ℕ) → Rising new → All Brought new → length new ≤ c → suc version < limit
+  refilled : (new : List Row) (after : List ℕ) → Rising new → AllByRecursion Brought new → length new ≤ c → suc version < limit
       → after ≡ suc version ∷ length new ∷ in_front new (drop 2 part)
       → Holds c (suc version) new after
   refilled new after u a f b e =

@@ -7,7 +7,7 @@ use Rattle.rows.specs.Numbers.{in_front}
 use Rattle.policy.specs.declared.refusal.Refusal.{Refusal}
 use Rattle.policy.specs.declared.refusal.Refusal.TheVariants.{NoRoom, NoRow, LastVersion}
 use Rattle.compartment.specs.Parts.{limit, checked, rows_part, write_told, write_after, delete_told, delete_after, raise_told, raise_after}
-use Rattle.std.specs.List.{AllByRecursion as All}
+use Rattle.std.specs.List.{AllByRecursion}
 
 -- a row as requests bring it
 abbrev pub Brought : Row → Type 0
@@ -19,7 +19,7 @@ pub record Holds (capacity version : ℕ) (rows : List Row) (part : List ℕ) : 
   pub is : part ≡ version ∷ length rows ∷ (flat rows ++ rest)
   pub long : length part ≡ 2 + 2 * capacity
   pub rises : Rising rows
-  pub brought : All Brought rows
+  pub brought : AllByRecursion Brought rows
   pub fits : length rows ≤ capacity
   pub bounded : version < limit
 
@@ -95,6 +95,6 @@ RaiseRefused = (start compartment count : ℕ) (part : List ℕ) → is_ok (rais
 abbrev pub RefilledHolds : Type 0
 RefilledHolds =
     (capacity version : ℕ) (rows new : List Row) (part after : List ℕ) → Holds capacity version rows part
-    → Rising new → All Brought new → length new ≤ capacity → suc version < limit
+    → Rising new → AllByRecursion Brought new → length new ≤ capacity → suc version < limit
     → after ≡ suc version ∷ length new ∷ in_front new (drop 2 part)
     → Holds capacity (suc version) new after

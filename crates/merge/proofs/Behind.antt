@@ -1,6 +1,6 @@
 -- Rows that rise, put one after another, seen from behind: which row comes last.
 use Rattle.std.proofs.Common.{◌≡◌, ℕ, suc, ◌<◌, ◌≤◌, eqb, ltb, List, [], ◌∷◌, ◌++◌, length, sym, refl, ap, ◌∙◌, inl, inr, arith}
-use Rattle.std.specs.List.{AllByRecursion as All}
+use Rattle.std.specs.List.{AllByRecursion}
 use Rattle.std.proofs.lemmas.Bool.Decides.{nat_tests}
 use Rattle.std.proofs.ByRecursion.{All-weaker}
 use Rattle.std.proofs.lemmas.Bool.{cases_Bool, lt-ltb, le-ltb, eq-eqb, ne_eqb}
@@ -21,7 +21,7 @@ ends (x ∷ xs) = go x (ends xs) where
   go x (one_more ys y) = one_more (x ∷ ys) y
 
 abbrev pub Below : ℕ → List Row → Type 0
-Below k xs = All (λ x. x.key < k) xs
+Below k xs = AllByRecursion (λ x. x.key < k) xs
 
 pub up_last : (low : ℕ) (xs : List Row) (x : Row) → Up low (xs ++ (x ∷ [])) → low ≤ x.key
 up_last low [] x u = u.0
@@ -47,7 +47,7 @@ put_front r (x ∷ xs) bs u =
       | inr e ↦ rw e (elim (cases_Bool (eqb x.key r.key)) [ inl f ↦ rw f refl | inr f ↦ rw f refl ])
     ]
 
-pub put_all_front : (ss xs bs : List Row) → All (λ r. Up (suc r.key) bs) ss → put_all ss (xs ++ bs) ≡ put_all ss xs ++ bs
+pub put_all_front : (ss xs bs : List Row) → AllByRecursion (λ r. Up (suc r.key) bs) ss → put_all ss (xs ++ bs) ≡ put_all ss xs ++ bs
 put_all_front [] xs bs a = refl
 put_all_front (s ∷ ss) xs bs a = rw (put_front s xs bs a.0) (put_all_front ss (put s xs) bs a.1)
 

@@ -1,6 +1,6 @@
 -- Rows of a range come only among those of that range.
 use Rattle.std.proofs.Common.{◌≡◌, ℕ, zero, suc, ◌+◌, ◌-◌, ◌*◌, ◌<◌, ◌≤◌, max, ltb, leb, List, [], ◌∷◌, ◌++◌, length, take, drop, sym, refl, ap, ◌∙◌, inl, inr, arith}
-use Rattle.std.specs.List.{AllByRecursion as All}
+use Rattle.std.specs.List.{AllByRecursion}
 use Rattle.std.proofs.ByRecursion.{All-weaker}
 use Rattle.std.proofs.lemmas.List.{take-append-drop, drop-drop, length-take, length-drop}
 use Rattle.std.proofs.lemmas.Bool.{cases_Bool, and_parts, ltb-true, ltb-false, leb-true, lt-ltb}
@@ -18,7 +18,7 @@ put_behind : (r : Row) (xs ys : List Row) → Below r.key xs → put r (xs ++ ys
 put_behind r [] ys b = refl
 put_behind r (x ∷ xs) ys b = rw (lt-ltb x.key r.key b.0) (ap (λ l. x ∷ l) (put_behind r xs ys b.1))
 
-put_all_behind : (ss xs ys : List Row) → All (λ r. Below r.key xs) ss → put_all ss (xs ++ ys) ≡ xs ++ put_all ss ys
+put_all_behind : (ss xs ys : List Row) → AllByRecursion (λ r. Below r.key xs) ss → put_all ss (xs ++ ys) ≡ xs ++ put_all ss ys
 put_all_behind [] xs ys a = refl
 put_all_behind (s ∷ ss) xs ys a = rw (put_behind s xs ys a.0) (put_all_behind ss xs (put s ys) a.1)
 
@@ -46,7 +46,7 @@ up_drop k low (suc n) (x ∷ xs) u h =
       | inr e ↦ let g = ltb-false x.key k e in up_drop k (suc x.key) n xs u.1 (omega (arith, smaller_none k (suc x.key) xs (omega arith) u.1))
     ]
 
-all_in_range : (range : KeyRange) (rs : List Row) → All (λ x. (range.from ≤ x.key) × (x.key ≤ range.to)) (rows_in range rs)
+all_in_range : (range : KeyRange) (rs : List Row) → AllByRecursion (λ x. (range.from ≤ x.key) × (x.key ≤ range.to)) (rows_in range rs)
 all_in_range range [] = tt
 all_in_range range (x ∷ xs) =
     elim (cases_Bool (in_range range x)) [
@@ -76,9 +76,9 @@ module _ (range : KeyRange) (ds : List Row) (u : Rising ds) where
       let P : Row → Type 0 = λ x. (range.from ≤ x.key) × (x.key ≤ range.to) in
       let front : Below range.from (rows_before range ds) = below_smaller range.from 0 ds u in
       let above : Up (range.to + 1) (rows_above range ds) = up_drop (range.to + 1) 0 b ds u (omega arith) in
-      let fronts : All (λ r. Below r.key (rows_before range ds)) (rows_in range ss) =
+      let fronts : AllByRecursion (λ r. Below r.key (rows_before range ds)) (rows_in range ss) =
       All-weaker P (λ r. Below r.key (rows_before range ds)) (λ r p. All-weaker (λ x. x.key < range.from) (λ x. x.key < r.key) (λ x l. omega arith) (rows_before range ds) front) _ (all_in_range range ss) in
-      let aboves : All (λ r. Up (suc r.key) (rows_above range ds)) (rows_in range ss) =
+      let aboves : AllByRecursion (λ r. Up (suc r.key) (rows_above range ds)) (rows_in range ss) =
       All-weaker P (λ r. Up (suc r.key) (rows_above range ds)) (λ r p. up_lower (suc r.key) (range.to + 1) (rows_above range ds) (omega arith) above) _ (all_in_range range ss) in
       ap (put_all (rows_in range ss)) three_parts
       ∙ put_all_behind (rows_in range ss) (rows_before range ds) (rows_in range ds ++ rows_above range ds) fronts

@@ -1,6 +1,6 @@
 -- What a user's cache holds after any trace: entries that were right when they were kept, none of them newer than now.
 use Rattle.std.proofs.Common.{◌≡◌, ℕ, suc, ◌+◌, ◌<◌, ◌≤◌, true, false, ◌&&◌, eqb, List, [], ◌∷◌, map, is_some, Some, sym, refl, ap, inl, inr, arith}
-use Rattle.std.specs.List.{AllByRecursion as All}
+use Rattle.std.specs.List.{AllByRecursion}
 use Rattle.std.proofs.ByRecursion.{All-weaker}
 use Rattle.std.proofs.lemmas.Bool.{cases_Bool, and_parts, and_from, and_right, eqb-true, eq-eqb, ne_eqb, or_cases, both_ways, cases_eq}
 use Rattle.rows.specs.declared.Row.{Row}
@@ -94,7 +94,7 @@ abbrev pub Fits : List ℕ → (ℕ → List Row) → List ℕ → Entry → Typ
 Fits view rows now e = (sum_of e.versions ≤ sum_of now) × (e.versions ≡ now → recall e.kept (answer view rows e.query) ≡ answer view rows e.query)
 
 abbrev pub AllFit : List ℕ → (ℕ → List Row) → List ℕ → List Entry → Type 0
-AllFit view rows now = All (Fits view rows now)
+AllFit view rows now = AllByRecursion (Fits view rows now)
 
 -- after a change of what is seen no entry is of now
 pub fit_older : (view : List ℕ) (rows other : ℕ → List Row) (now later : List ℕ) (es : List Entry) → sum_of now < sum_of later →

@@ -1,6 +1,6 @@
 -- What holds of an empty store, and is kept by every call: order, and bounds.
 use Rattle.std.proofs.Common.{◌≡◌, ℕ, suc, ◌<◌, ◌≤◌, true, ◌&&◌, ltb, leb, List, [], ◌∷◌, length, Some, None, Option, refl, inl, inr, arith, length-take}
-use Rattle.std.specs.List.{AllByRecursion as All}
+use Rattle.std.specs.List.{AllByRecursion}
 use Rattle.std.proofs.lemmas.List.{length-map}
 use Rattle.std.proofs.ByRecursion.{All-take, All-map}
 use Rattle.std.proofs.lemmas.Bool.{cases_Bool, cases_eq, eq-eqb, ne_eqb, leb-true, ltb-true}
@@ -20,9 +20,9 @@ use Rattle.model.proofs.Alike.{passed}
 -- a state of which both hold
 pub record Orderly (p : Rules) (limit : ℕ) (s : State) : Type 0 where
   pub compartments : (c : ℕ) → InOrder (p.capacity c) limit (s.rows c) (s.version c)
-  pub caches : (u : ℕ) → (length (s.cache u) ≤ 8) × All (WellKept p limit u) (s.cache u)
+  pub caches : (u : ℕ) → (length (s.cache u) ≤ 8) × AllByRecursion (WellKept p limit u) (s.cache u)
 
-all_of : {A : Type 0} (P : A → Type 0) → ((a : A) → P a) → (xs : List A) → All P xs
+all_of : {A : Type 0} (P : A → Type 0) → ((a : A) → P a) → (xs : List A) → AllByRecursion P xs
 all_of P f [] = tt
 all_of P f (x ∷ xs) = (f x, all_of P f xs)
 

@@ -1,6 +1,6 @@
 -- What holds in every state that calls lead to: rows in order, and bounds that are never passed.
 use Rattle.std.specs.Prelude.{◌≡◌, ℕ, ◌<◌, ◌≤◌, cond, ◌&&◌, List, length}
-use Rattle.std.specs.List.{AllByRecursion as All}
+use Rattle.std.specs.List.{AllByRecursion}
 use Rattle.rows.specs.declared.Row.{Row}
 use Rattle.rows.specs.Rows.{Rising}
 use Rattle.policy.specs.Rules.{Rules, sees}
@@ -29,11 +29,11 @@ OfKind p user (Shared a b range) kept = kept ≡ cond (sees p user a && sees p u
 -- an entry has a version for each compartment of the view, none of which reaches the limit
 pub record WellKept (p : Rules) (limit user : ℕ) (e : Entry) : Type 0 where
   pub versions : length e.versions ≡ length (p.view user)
-  pub below : 0 < limit → All (λ n. n < limit) e.versions
+  pub below : 0 < limit → AllByRecursion (λ n. n < limit) e.versions
   pub kind : OfKind p user e.query e.kept
 
 -- CACHES. After any calls every cache has at most eight entries, all of them well kept.
 abbrev pub Caches : Type 0
 Caches = (p : Rules) (limit : ℕ) (calls : List Call) (user : ℕ) →
     let cache = (run p limit empty calls).cache user in
-    (length cache ≤ 8) × All (WellKept p limit user) cache
+    (length cache ≤ 8) × AllByRecursion (WellKept p limit user) cache

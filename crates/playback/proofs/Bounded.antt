@@ -8,7 +8,7 @@ use Rattle.request.specs.declared.Request.{Request}
 use Rattle.request.specs.declared.Request.TheVariants as request
 use Rattle.request.proofs.Reading.{reads_what_stands}
 use Rattle.std.proofs.lemmas.Bool.{cases_Bool}
-use Rattle.std.specs.List.{AllByRecursion as All}
+use Rattle.std.specs.List.{AllByRecursion}
 use Rattle.playback.specs.Items.{item_in, items_by, items}
 use Rattle.playback.specs.declared.items.Item.{Item}
 use Rattle.playback.specs.declared.items.Item.TheVariants as item
@@ -45,12 +45,12 @@ by_bounded bytes (Some layout) = elim (cases_Bool (ltb (length bytes) (size layo
   | inr e ↦ rw e (whole_bounded (get_or bytes 1 0) (size layout) (numbers_in layout bytes) (decoded (numbers_in layout bytes)) refl)
 ]
 
-listed : (rest : List ℕ → List Item) (bytes : List ℕ) (x : Next) → NextBounded x → ((bs : List ℕ) → All Bounded (rest bs)) → All Bounded (items_by rest bytes (item_in x))
+listed : (rest : List ℕ → List Item) (bytes : List ℕ) (x : Next) → NextBounded x → ((bs : List ℕ) → AllByRecursion Bounded (rest bs)) → AllByRecursion Bounded (items_by rest bytes (item_in x))
 listed rest bytes (next.Request r n) b each = (b, each (drop n bytes))
 listed rest bytes (next.Fault user place n) b each = (tt, each (drop n bytes))
 listed rest bytes (next.End place) b each = tt
 
-pub items_bounded : (n : ℕ) (bytes : List ℕ) → All Bounded (items n bytes)
+pub items_bounded : (n : ℕ) (bytes : List ℕ) → AllByRecursion Bounded (items n bytes)
 items_bounded zero bytes = tt
 items_bounded (suc n) bytes =
     let more = listed (items n) bytes (next_in bytes) (by_bounded bytes (request_layout bytes)) (items_bounded n) in

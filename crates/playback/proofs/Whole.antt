@@ -16,7 +16,7 @@ use Rattle.request.specs.declared.Request.{Request}
 use Rattle.answering.proofs.Lengths.{asked_keeps_length}
 use Rattle.request.specs.declared.Request.TheVariants.{Write, Delete, Copy, Query as Ask}
 use Rattle.std.proofs.lemmas.Bool.{cases_Bool}
-use Rattle.std.specs.List.{AllByRecursion as All}
+use Rattle.std.specs.List.{AllByRecursion}
 use Rattle.store.specs.Served.{served_row, served_memory, heard}
 use Rattle.store.specs.Simulation.{Holds}
 use Rattle.playback.specs.Along.{item_told, item_memory, item_row, text_along, memory_along}
@@ -53,7 +53,7 @@ item_steps p s memory row (item.Request r) l h b =
     }
 item_steps p s memory row (item.NoRequest user place) l h b = record { says = refl; holds = h; long = l }
 
-pub text_is : (p : Policy) (a : Audience) (s : State) (memory row : List ℕ) (is : List Item) → length row ≡ lent → Holds p s memory → All Bounded is →
+pub text_is : (p : Policy) (a : Audience) (s : State) (memory row : List ℕ) (is : List Item) → length row ≡ lent → Holds p s memory → AllByRecursion Bounded is →
     text_along p a memory row is ≡ text (heard_by a (lines (rules_of p) s (concerning (rules_of p) a is)))
 text_is p a s memory row [] l h b = refl
 text_is p a s memory row (i ∷ is) l h b =

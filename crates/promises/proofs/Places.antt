@@ -25,7 +25,7 @@ use Rattle.rows.specs.declared.Row.{Row}
 use Rattle.std.proofs.lemmas.List.{drop-drop, drop_at, length-append, length-replicate, length-drop, length-set}
 use Rattle.std.proofs.lemmas.Slice.{take-put_mid_below, drop-put_mid}
 use Rattle.std.proofs.lemmas.Bool.{cases_Bool, both_ways, ltb-true, lt-ltb, le-ltb, cond-true, eqb-false}
-use Rattle.std.specs.List.{AllByRecursion as All}
+use Rattle.std.specs.List.{AllByRecursion}
 use Rattle.store.specs.Calls.{opened, wrote, deleted, copied, itself_memory, between_memory}
 use Rattle.store.specs.Memory.{end, part}
 use Rattle.store.specs.Simulation.{Holds, cache_start}
@@ -239,7 +239,7 @@ module _ (p : Policy) (s : State) (memory : List ℕ) (h : Holds p s memory) whe
 pub one_place : OnePlace
 one_place p memory r lent k b = in_place p (state p memory k) memory (reached p memory k) r lent b
 
-untouched_on : (p : Policy) (s : State) (memory : List ℕ) (made : List Made) → Holds p s memory → All Possible made →
+untouched_on : (p : Policy) (s : State) (memory : List ℕ) (made : List Made) → Holds p s memory → AllByRecursion Possible made →
     (length (after p memory made) ≡ length memory) × (drop (memory_length p) (after p memory made) ≡ drop (memory_length p) memory)
 untouched_on p s memory [] h a = (refl, refl)
 untouched_on p s memory (m ∷ ms) h a =

@@ -15,7 +15,7 @@ use Rattle.request.specs.declared.Request.{Request}
 use Rattle.request.specs.declared.Request.TheVariants.{Write, Delete, Copy, Query as Ask}
 use Rattle.rows.specs.Rows.{put, has_key}
 use Rattle.std.proofs.lemmas.Bool.{cases_Bool}
-use Rattle.std.specs.List.{AllByRecursion as All}
+use Rattle.std.specs.List.{AllByRecursion}
 use Rattle.store.specs.Calls.{opened}
 use Rattle.store.specs.Served.{served_row}
 use Rattle.store.specs.Simulation.{Holds, Follows, as_result}
@@ -84,7 +84,7 @@ with_rows (r ∷ rs) [] = []
 with_rows (r ∷ rs) (row ∷ rows) = record { response = r; row = row_with r row } ∷ with_rows rs rows
 
 -- a user is told along the calls what the model tells them, and their rows hold it
-replies_follow : (p : Policy) (v : ℕ) (s : State) (memory : List ℕ) (made : List Made) → Holds p s memory → All Possible made →
+replies_follow : (p : Policy) (v : ℕ) (s : State) (memory : List ℕ) (made : List Made) → Holds p s memory → AllByRecursion Possible made →
     replies_on p v memory made ≡ with_rows (told (rules_of p) limit v s (map call_of made)) (lent_to v made)
 replies_follow p v s memory [] h a = refl
 replies_follow p v s memory (m ∷ ms) h a =
@@ -92,7 +92,7 @@ replies_follow p v s memory (m ∷ ms) h a =
     let rest = replies_follow p v (step (rules_of p) limit s (call_of m)) (leaves p memory m.request m.row) ms f.holds a.1 in
     elim (cases_Bool (eqb (who m.request) v)) [ inl e ↦ rw (e, f.tells_so, f.left, rest) refl | inr e ↦ rw (e, rest) refl ]
 
-holds_follow : (p : Policy) (s : State) (memory : List ℕ) (made : List Made) → Holds p s memory → All Possible made →
+holds_follow : (p : Policy) (s : State) (memory : List ℕ) (made : List Made) → Holds p s memory → AllByRecursion Possible made →
     Holds p (run (rules_of p) limit s (map call_of made)) (after p memory made)
 holds_follow p s memory [] h a = h
 holds_follow p s memory (m ∷ ms) h a =
@@ -105,7 +105,7 @@ purged_is p v (m ∷ ms) =
     let i = purged_is p v ms in
     elim (cases_Bool (relevant (rules_of p) v (call_of m))) [ inl e ↦ rw (e, i) refl | inr e ↦ rw (e, i) refl ]
 
-purged_possible : (p : Policy) (v : ℕ) (made : List Made) → All Possible made → All Possible (purged p v made)
+purged_possible : (p : Policy) (v : ℕ) (made : List Made) → AllByRecursion Possible made → AllByRecursion Possible (purged p v made)
 purged_possible p v [] a = tt
 purged_possible p v (m ∷ ms) a =
     let i = purged_possible p v ms a.1 in

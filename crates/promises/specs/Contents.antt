@@ -6,7 +6,7 @@ use Rattle.policy.specs.Access.{memory_length}
 use Rattle.policy.specs.declared.Policy.{Policy}
 use Rattle.rows.specs.Halving.{rows_of}
 use Rattle.rows.specs.declared.Row.{Row}
-use Rattle.std.specs.List.{AllByRecursion as All}
+use Rattle.std.specs.List.{AllByRecursion}
 use Rattle.store.specs.Calls.{opened}
 use Rattle.store.specs.Simulation.{cache_start}
 use Rattle.promises.specs.Traces.{Made, Possible, after}
@@ -24,5 +24,5 @@ pub record Reached (p : Policy) (memory : List ℕ) : Type 0 where
   pub start : List ℕ
   pub made : List Made
   pub long : memory_length p ≤ length start
-  pub possible : All Possible made
+  pub possible : AllByRecursion Possible made
   pub is : memory ≡ after p (opened p start) made

@@ -19,7 +19,7 @@ use Rattle.request.specs.declared.Request.TheVariants.{Write, Delete, Copy, Quer
 use Rattle.rows.specs.Rows.{amount_of, has_key, rows_in, also_in}
 use Rattle.rows.specs.declared.KeyRange.{KeyRange}
 use Rattle.rows.specs.declared.Row.{Row}
-use Rattle.std.specs.List.{AllByRecursion as All}
+use Rattle.std.specs.List.{AllByRecursion}
 use Rattle.store.specs.Calls.{opened}
 use Rattle.store.specs.Served.{served_row}
 use Rattle.store.specs.Simulation.{cache_start}
@@ -163,6 +163,6 @@ OnePlace = (p : Policy) (memory : List ℕ) (r : Request) (lent : List ℕ) → 
 
 -- UNTOUCHED. After every list of requests memory is as long as it was, and what lies behind the policy's part of it is as it was.
 abbrev pub Untouched : Type 0
-Untouched = (p : Policy) (memory : List ℕ) (made : List Made) → memory_length p ≤ length memory → All Possible made →
+Untouched = (p : Policy) (memory : List ℕ) (made : List Made) → memory_length p ≤ length memory → AllByRecursion Possible made →
     let left = after p (opened p memory) made in
     (length left ≡ length memory) × (drop (memory_length p) left ≡ drop (memory_length p) memory)

@@ -5,7 +5,7 @@ use Rattle.std.proofs.lemmas.Bool.{cases_Bool, ltb-true, ltb-false, eqb-true, eq
 use Rattle.rows.specs.declared.Row.{Row}
 use Rattle.rows.specs.declared.KeyRange.{KeyRange}
 use Rattle.rows.specs.Rows.{Up, Rising, has_key, smaller, put, put_all, without, in_range, rows_in, also_in}
-use Rattle.std.specs.List.{AllByRecursion as All}
+use Rattle.std.specs.List.{AllByRecursion}
 
 pub up_lower : (low high : ℕ) (rs : List Row) → low ≤ high → Up high rs → Up low rs
 up_lower low high [] l u = tt
@@ -91,7 +91,7 @@ length_without k (x ∷ xs) = let i = length_without k xs in grind (arith, nat_t
 
 -- what holds of each row still does
 module _ (P : Row → Type 0) where
-  pub all_put : (r : Row) (rs : List Row) → P r → All P rs → All P (put r rs)
+  pub all_put : (r : Row) (rs : List Row) → P r → AllByRecursion P rs → AllByRecursion P (put r rs)
   all_put r [] p a = (p, tt)
   all_put r (x ∷ xs) p a =
       elim (cases_Bool (ltb x.key r.key)) [
@@ -99,22 +99,22 @@ module _ (P : Row → Type 0) where
         | inr e ↦ rw e (elim (cases_Bool (eqb x.key r.key)) [ inl f ↦ rw f (p, a.1) | inr f ↦ rw f (p, a) ])
       ]
 
-  pub all_put_all : (ps rs : List Row) → All P ps → All P rs → All P (put_all ps rs)
+  pub all_put_all : (ps rs : List Row) → AllByRecursion P ps → AllByRecursion P rs → AllByRecursion P (put_all ps rs)
   all_put_all [] rs p a = a
   all_put_all (x ∷ xs) rs p a = all_put_all xs (put x rs) p.1 (all_put x rs p.0 a)
 
-  pub all_without : (k : ℕ) (rs : List Row) → All P rs → All P (without k rs)
+  pub all_without : (k : ℕ) (rs : List Row) → AllByRecursion P rs → AllByRecursion P (without k rs)
   all_without k [] a = tt
   all_without k (x ∷ xs) a =
       elim (cases_Bool (eqb x.key k)) [ inl e ↦ rw e a.1 | inr e ↦ rw e (a.0, all_without k xs a.1) ]
 
-  pub all_rows_in : (range : KeyRange) (rs : List Row) → All P rs → All P (rows_in range rs)
+  pub all_rows_in : (range : KeyRange) (rs : List Row) → AllByRecursion P rs → AllByRecursion P (rows_in range rs)
   all_rows_in range [] a = tt
   all_rows_in range (x ∷ xs) a =
       let i = all_rows_in range xs a.1 in
       elim (cases_Bool (in_range range x)) [ inl e ↦ rw e (a.0, i) | inr e ↦ rw e i ]
 
-  pub all_also_in : (rs ys : List Row) → All P rs → All P (also_in rs ys)
+  pub all_also_in : (rs ys : List Row) → AllByRecursion P rs → AllByRecursion P (also_in rs ys)
   all_also_in [] ys a = tt
   all_also_in (x ∷ xs) ys a =
       let i = all_also_in xs ys a.1 in

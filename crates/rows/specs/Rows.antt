@@ -2,7 +2,7 @@
 use Rattle.std.specs.Prelude.{ℕ, suc, ◌+◌, ◌^◌, ◌<◌, ◌≤◌, Bool, false, cond, ◌&&◌, ◌||◌, List, [], ◌∷◌, Some, None, Option, ◌==◌, nat_le, nat_lt}
 use Rattle.rows.specs.declared.Row.{Row}
 use Rattle.rows.specs.declared.KeyRange.{KeyRange}
-use Rattle.std.specs.List.{AllByRecursion as All}
+use Rattle.std.specs.List.{AllByRecursion}
 
 -- every key is at least `low`, and keys rise, so that each stands once
 abbrev pub Up : ℕ → List Row → Type 0
@@ -60,4 +60,4 @@ also_in (x ∷ xs) ys = cond (has_key x.key ys) (x ∷ also_in xs ys) (also_in x
 
 -- amounts as requests bring them
 abbrev pub Small : List Row → Type 0
-Small xs = All (λ x. x.amount < 2 ^ 32) xs
+Small xs = AllByRecursion (λ x. x.amount < 2 ^ 32) xs

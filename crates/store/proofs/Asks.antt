@@ -22,7 +22,7 @@ use Rattle.rows.specs.declared.Row.{Row}
 use Rattle.rows.specs.Halving.{flat}
 use Rattle.std.proofs.lemmas.List.{get_or_past, length-take, length-take-le, length-map}
 use Rattle.std.proofs.lemmas.Bool.{cases_Bool, cases_eq, cases_lt, lt-ltb, le-ltb, lt-leb, ltb-true, eq-eqb, cond-true, cond-false, both_ways}
-use Rattle.std.specs.List.{AllByRecursion as All}
+use Rattle.std.specs.List.{AllByRecursion}
 use Rattle.store.specs.Memory.{end, part}
 use Rattle.store.specs.Simulation.{Holds, AskFollows, AskFollowsWithRow, cache_start}
 use Rattle.store.proofs.Parts.{kept_length, part_here, part_apart}
@@ -38,7 +38,7 @@ seer_there p user c e =
           absurd (both_ways false refl (rw none at e))
     ]
 
-small : (rs : List Row) → All compartment.Brought rs → All (λ x. x.amount < 4294967296) rs
+small : (rs : List Row) → AllByRecursion compartment.Brought rs → AllByRecursion (λ x. x.amount < 4294967296) rs
 small [] a = tt
 small (x ∷ xs) a = (a.0.1, small xs a.1)
 

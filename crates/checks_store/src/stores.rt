@@ -3,7 +3,6 @@ use super::three::THREE;
 use policy::{Policy, Refusal};
 use request::Request;
 use rows::{KeyRange, Row};
-use std::process::Abort;
 use store::Response;
 
 // Compartments begin at 0, 8 and 16, with capacities 3, 3 and 2; memory has 598 numbers.
@@ -56,8 +55,8 @@ fn set(memory: &mut [u64], place: usize, number: u64) {
     }
 }
 
-fn holds(rt: &impl Abort, memory: &[u64], place: usize, number: u64) {
-    assert!(rt; memory.get(place) == Some(&number));
+fn holds(memory: &[u64], place: usize, number: u64) -> bool {
+    memory.get(place) == Some(&number)
 }
 
 #[test]
@@ -68,10 +67,8 @@ fn opens_memory(rt: HostRuntime) {
 
 #[test]
 fn refuses_in_words(rt: HostRuntime) {
-    changes(&rt, &mut [0; 598]);
-}
-
-fn changes(rt: &impl Abort, memory: &mut [u64]) {
+    let mut numbers = [0; 598];
+    let memory = &mut numbers[..];
     assert!(rt; refused(memory, write(2, 1)) == None);
     assert!(rt; refused(memory, write(2, 2)) == None);
     assert!(rt; refused(memory, write(2, 3)) == Some(Refusal::NoRoom { capacity: 2 }));
@@ -80,34 +77,30 @@ fn changes(rt: &impl Abort, memory: &mut [u64]) {
     assert!(rt; refused(memory, copy(2, 0)) == Some(Refusal::NoFlow { compartment: 0 }));
     assert!(rt; refused(memory, copy(3, 1)) == Some(Refusal::NoFlow { compartment: 1 }));
     assert!(rt; refused(memory, write(3, 1)) == Some(Refusal::NoUser { user: 3 }));
-    holds(rt, memory, 16, 3);
-    holds(rt, memory, 17, 2);
+    assert!(rt; holds(memory, 16, 3));
+    assert!(rt; holds(memory, 17, 2));
 }
 
 #[test]
 fn stops_at_the_last_version(rt: HostRuntime) {
-    versions(&rt, &mut [0; 598]);
-}
-
-fn versions(rt: &impl Abort, memory: &mut [u64]) {
+    let mut numbers = [0; 598];
+    let memory = &mut numbers[..];
     set(memory, 8, LIMIT - 2);
     assert!(rt; refused(memory, write(1, 5)) == None);
-    holds(rt, memory, 8, LIMIT - 1);
+    assert!(rt; holds(memory, 8, LIMIT - 1));
     assert!(rt; refused(memory, write(1, 6)) == Some(Refusal::LastVersion { compartment: 1 }));
     assert!(rt; refused(memory, copy(1, 1)) == Some(Refusal::LastVersion { compartment: 1 }));
     assert!(rt; refused(memory, delete(1, 6)) == Some(Refusal::NoRow { key: 6 }));
-    holds(rt, memory, 8, LIMIT - 1);
-    holds(rt, memory, 9, 1);
+    assert!(rt; holds(memory, 8, LIMIT - 1));
+    assert!(rt; holds(memory, 9, 1));
     set(memory, 8, LIMIT);
     assert!(rt; refused(memory, write(1, 6)) == Some(Refusal::OutOfBounds { place: 8 }));
 }
 
 #[test]
 fn finds_damage_where_it_looks(rt: HostRuntime) {
-    damage(&rt, &mut [0; 598]);
-}
-
-fn damage(rt: &impl Abort, memory: &mut [u64]) {
+    let mut numbers = [0; 598];
+    let memory = &mut numbers[..];
     set(memory, 1, 4);
     assert!(rt; refused(memory, write(1, 5)) == None);
     assert!(rt; refused(memory, write(0, 5)) == Some(Refusal::OutOfBounds { place: 1 }));

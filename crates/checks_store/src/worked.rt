@@ -1,7 +1,5 @@
 // The worked example: whole, for one user, and cut at each of its bytes.
 use policy::Refusal;
-use std::alloc::Global;
-use std::process::Abort;
 use std::test::Fail;
 
 // The bytes of examples/worked.trace.
@@ -113,11 +111,9 @@ fn plays_the_worked_example(rt: HostRuntime) -> Result<(), Fail> {
 // User 1 is told their six lines, and of user 0's compartment, the first in memory, nothing was changed.
 #[test]
 fn plays_for_one(rt: HostRuntime) -> Result<(), Fail> {
-    plays_in(&rt, rt.alloc(), &mut [7; 600])
-}
-
-fn plays_in(rt: &impl Abort, heap: Global, memory: &mut [u64]) -> Result<(), Fail> {
-    let played = playback::play_for(heap, memory, 1, &WORKED)?;
+    let mut numbers = [7; 600];
+    let memory = &mut numbers[..];
+    let played = playback::play_for(rt.alloc(), memory, 1, &WORKED)?;
     assert!(rt;
         played.text.as_str()
             == "1: done\n1: 1 row 10 looked at 1\n1: done\n1: not allowed\n1: 2 rows 11 looked at 2\n1: no row\n"

@@ -1,5 +1,5 @@
 -- What `serve` returns and leaves is what each kind of request does.
-use Rattle.std.proofs.Common.{◌≡◌, ℕ, List, length, Ok, Err, Result, refl, sym}
+use Rattle.std.proofs.Common.{◌≡◌, ℕ, List, length, Ok, Err, Result, refl}
 use Rattle.answering.specs.Asked.{asked_told, asked_row}
 use Rattle.policy.specs.declared.Policy.{Policy}
 use Rattle.policy.specs.declared.refusal.Refusal.{Refusal}
@@ -8,6 +8,7 @@ use Rattle.request.specs.declared.Request.{Request}
 use Rattle.request.specs.declared.Request.TheVariants.{Write, Delete, Copy, Query as Ask}
 use Rattle.store.specs.Calls.{wrote_told, deleted_told, copied_told}
 use Rattle.store.specs.Served.{change_response, query_response, served_told, served_memory, served_row, heard}
+use Rattle.promises.specs.Served.{AsServed}
 use Rattle.promises.specs.Traces.{as_response, as_answer, tells, leaves}
 
 change_heard : (told : Result (Unit {0}) Refusal) (row : List ℕ) → as_response told ≡ heard (change_response told) row
@@ -30,3 +31,6 @@ leaves_served p memory (Write user new) row = refl
 leaves_served p memory (Delete user key) row = refl
 leaves_served p memory (Copy user c range) row = refl
 leaves_served p memory (Ask user query) row = refl
+
+pub as_served : AsServed
+as_served p memory request row = (tells_served p memory request row, leaves_served p memory request row)

@@ -4,3 +4,4 @@ pub mod Promises
 pub mod Contents
 pub mod Effects
 pub mod Example
+pub mod Served

@@ -2,6 +2,7 @@
 ghost use Rattle.promises.specs.Effects.{AbsentUsers, Again, CopyEffect, CopyTold, DeleteEffect, DeleteTold, EitherOrder, NotSeen};
 ghost use Rattle.promises.specs.Effects.{OnePlace, OnlyWriters, Order, RefusalsLeave, ShortRows, Untouched, WriteEffect, WriteTold};
 ghost use Rattle.promises.specs.Example.{Worked};
+ghost use Rattle.promises.specs.Served.{AsServed};
 
 pub fn order_stands()
     ensures { Order }
@@ -74,4 +75,9 @@ pub fn short_rows_stands()
 // Every response of a small trace, worked out by hand.
 pub fn example_stands()
     ensures { Worked }
+{}
+
+// Traces are traces of `serve`.
+pub fn as_served_stands()
+    ensures { AsServed }
 {}

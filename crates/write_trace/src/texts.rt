@@ -1,6 +1,5 @@
 // Texts that are traces, and texts that are none.
 use std::alloc::{AllocError, Global};
-use std::process::Abort;
 use std::test::Fail;
 
 // Two users and two compartments: six lines.
@@ -15,22 +14,21 @@ fn told(heap: Global, text: &str) -> Result<String, AllocError> {
     }
 }
 
-fn tells(rt: &impl Abort, heap: Global, text: &str, words: &str) -> Result<(), Fail> {
+fn tells(heap: Global, text: &str, words: &str) -> Result<bool, AllocError> {
     let told = told(heap, text)?;
-    assert!(rt; told.as_str() == words);
-    Ok(())
+    Ok(told.as_str() == words)
 }
 
 // Of the third line, behind the counts.
-fn tells_user(rt: &impl Abort, heap: Global, line: &str, words: &str) -> Result<(), Fail> {
+fn tells_user(heap: Global, line: &str, words: &str) -> Result<bool, AllocError> {
     let text = format!(in heap; "users 2\ncompartments 2\n{line}")?;
-    tells(rt, heap, text.as_str(), words)
+    tells(heap, text.as_str(), words)
 }
 
 // Of the seventh line, behind the policy.
-fn tells_request(rt: &impl Abort, heap: Global, line: &str, words: &str) -> Result<(), Fail> {
+fn tells_request(heap: Global, line: &str, words: &str) -> Result<bool, AllocError> {
     let text = format!(in heap; "{POLICY}{line}")?;
-    tells(rt, heap, text.as_str(), words)
+    tells(heap, text.as_str(), words)
 }
 
 #[test]
@@ -54,70 +52,50 @@ fn writes_bytes(rt: HostRuntime) -> Result<(), Fail> {
 #[test]
 fn refuses_counts(rt: HostRuntime) -> Result<(), Fail> {
     let heap = rt.alloc();
-    tells(&rt, heap, "users 3\n", "line 2: the policy is cut short")?;
-    tells(&rt, heap, "user 3", "line 1: expected users")?;
-    tells(&rt, heap, "users 1x", "line 1: word 2 is no number")?;
-    tells(
-        &rt,
-        heap,
-        "\n# none\nusers 0",
-        "line 3: word 2 is out of bounds",
-    )?;
-    tells(&rt, heap, "users 33", "line 1: word 2 is out of bounds")?;
-    tells(&rt, heap, "users 2 3", "line 1: word 3 is too many")?;
-    tells(
-        &rt,
-        heap,
-        "users 2\ncompartments 17",
-        "line 2: word 2 is out of bounds",
-    )
+    assert!(rt; tells(heap, "users 3\n", "line 2: the policy is cut short")?);
+    assert!(rt; tells(heap, "user 3", "line 1: expected users")?);
+    assert!(rt; tells(heap, "users 1x", "line 1: word 2 is no number")?);
+    assert!(rt; tells(heap, "\n# none\nusers 0", "line 3: word 2 is out of bounds")?);
+    assert!(rt; tells(heap, "users 33", "line 1: word 2 is out of bounds")?);
+    assert!(rt; tells(heap, "users 2 3", "line 1: word 3 is too many")?);
+    assert!(rt;
+        tells(
+            heap,
+            "users 2\ncompartments 17",
+            "line 2: word 2 is out of bounds"
+        )?
+    );
+    Ok(())
 }
 
 #[test]
 fn refuses_views(rt: HostRuntime) -> Result<(), Fail> {
     let heap = rt.alloc();
-    tells_user(
-        &rt,
-        heap,
-        "user 1 sees 0 writes 0",
-        "line 3: expected number 0",
-    )?;
-    tells_user(
-        &rt,
-        heap,
-        "user 0 looks 0 writes 0",
-        "line 3: expected sees",
-    )?;
-    tells_user(
-        &rt,
-        heap,
-        "user 0 sees 0 0 writes 0",
-        "line 3: no such view",
-    )?;
-    tells_user(&rt, heap, "user 0 sees 2 writes 2", "line 3: no such view")?;
-    tells_user(&rt, heap, "user 0 sees 0 writes 1", "line 3: no such view")?;
-    tells_user(&rt, heap, "user 0 sees writes 0", "line 3: no such view")?;
-    tells_user(&rt, heap, "user 0 sees 0 1", "line 3: word 6 is no number")
+    assert!(rt; tells_user(heap, "user 1 sees 0 writes 0", "line 3: expected number 0")?);
+    assert!(rt; tells_user(heap, "user 0 looks 0 writes 0", "line 3: expected sees")?);
+    assert!(rt; tells_user(heap, "user 0 sees 0 0 writes 0", "line 3: no such view")?);
+    assert!(rt; tells_user(heap, "user 0 sees 2 writes 2", "line 3: no such view")?);
+    assert!(rt; tells_user(heap, "user 0 sees 0 writes 1", "line 3: no such view")?);
+    assert!(rt; tells_user(heap, "user 0 sees writes 0", "line 3: no such view")?);
+    assert!(rt; tells_user(heap, "user 0 sees 0 1", "line 3: word 6 is no number")?);
+    Ok(())
 }
 
 #[test]
 fn refuses_requests(rt: HostRuntime) -> Result<(), Fail> {
     let heap = rt.alloc();
-    tells_request(&rt, heap, "31 shared 15 0 9 4294967295", "read")?;
-    tells_request(&rt, heap, "32 write 1 1", "line 7: word 1 is out of bounds")?;
-    tells_request(&rt, heap, "0 sell 1 1", "line 7: no such request")?;
-    tells_request(&rt, heap, "0 write 1", "line 7: word 4 is no number")?;
-    tells_request(&rt, heap, "0 write 1 2 3", "line 7: word 5 is too many")?;
-    tells_request(
-        &rt,
-        heap,
-        "0 write 4294967296 1",
-        "line 7: word 3 is out of bounds",
-    )?;
-    tells_request(
-        &rt,
-        heap,
-        "0 copy 16 0 9",
-        "line 7: word 3 is out of bounds",
-    )
+    assert!(rt; tells_request(heap, "31 shared 15 0 9 4294967295", "read")?);
+    assert!(rt; tells_request(heap, "32 write 1 1", "line 7: word 1 is out of bounds")?);
+    assert!(rt; tells_request(heap, "0 sell 1 1", "line 7: no such request")?);
+    assert!(rt; tells_request(heap, "0 write 1", "line 7: word 4 is no number")?);
+    assert!(rt; tells_request(heap, "0 write 1 2 3", "line 7: word 5 is too many")?);
+    assert!(rt;
+        tells_request(
+            heap,
+            "0 write 4294967296 1",
+            "line 7: word 3 is out of bounds"
+        )?
+    );
+    assert!(rt; tells_request(heap, "0 copy 16 0 9", "line 7: word 3 is out of bounds")?);
+    Ok(())
 }

@@ -79,7 +79,7 @@ fn found_or_not(
     ensures after { memory.new ≡ memory_by policy.now memory.old (view_of contract.now) (versions_in policy.now memory.old (view_of contract.now)) at query (length row.old) (found policy.now memory.old (view_of contract.now) at query) }
     ensures lent { row.new ≡ row_by policy.now memory.old (view_of contract.now) query row.old (found policy.now memory.old (view_of contract.now) at query) }
 {
-    let view = views::view(contract);
+    let view = contract.view();
     let mut versions = [0; 16];
     views::read_versions(policy, memory, view, &mut versions);
     let versions = views::first(&versions, view.len());

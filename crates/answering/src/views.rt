@@ -1,20 +1,11 @@
 // What memory holds of several compartments: versions, the lowest number out of bounds, and rows that are lent.
 ghost use Rattle.std.specs.Prelude.{◌≡◌, ◌≤◌, map, length, take};
 ghost use Rattle.policy.specs.Access.{memory_length};
-ghost use Rattle.policy.specs.Views.{view_of};
 ghost use Rattle.answering.specs.Places.{lower, damaged};
 ghost use Rattle.answering.specs.Asked.{versions_in, parts_in};
 
 use crate::places::{fault_at, rows_at, version_at};
-use policy::{Contract, Policy};
-
-// The user's view, which is short.
-pub(crate) fn view(contract: &Contract) -> &[u64]
-    ensures value { result.now ≡ view_of contract.now }
-    ensures few { length result.now ≤ 16 }
-{
-    contract.view()
-}
+use policy::Policy;
 
 // The first numbers of some.
 pub(crate) fn first(numbers: &[u64], count: usize) -> &[u64]

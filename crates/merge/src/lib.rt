@@ -11,7 +11,7 @@ use rows::{KeyRange, position, range};
 pub mod laws;
 
 // Rows in memory: where they begin, and how many they are.
-#[derive(Clone, Copy)]
+#[derive(Clone, Copy, PartialEq, Eq, Debug)]
 pub struct Part {
     pub start: usize,
     pub count: usize,
@@ -19,7 +19,7 @@ pub struct Part {
 
 // Where the rows to copy stand and how many they are; where the rows stand that they come among, how many those are,
 // how many more stand behind them, and how many there are to be in place of `count`.
-#[derive(Clone, Copy)]
+#[derive(Clone, Copy, PartialEq, Eq, Debug)]
 pub struct Copying {
     pub source: usize,
     pub copied: usize,

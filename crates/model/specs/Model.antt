@@ -16,6 +16,7 @@ pub use Rattle.cache.specs.Entries.{Entry, find_exact as find}
 pub use Rattle.cache.specs.Places.{same_numbers as same_versions}
 use Rattle.request.specs.declared.Request.{Request}
 use Rattle.request.specs.declared.Request.TheVariants.{Write, Delete, Copy, Query as Ask}
+pub use Rattle.request.specs.Who.{who, asks}
 
 -- each compartment's rows and how often it was changed, and each user's cache, the newest entry first
 pub record State : Type 0 where
@@ -38,20 +39,6 @@ pub data Response : Type 0 where
   done : Response
   refused : Refusal → Response
   answered : Answer → ℕ → Response  -- an answer, and how many rows were examined
-
--- who makes the request
-abbrev pub who : Request → ℕ
-who (Write user row) = user
-who (Delete user key) = user
-who (Copy user compartment range) = user
-who (Ask user query) = user
-
--- is it a query?
-abbrev pub asks : Request → Bool
-asks (Write user row) = false
-asks (Delete user key) = false
-asks (Copy user compartment range) = false
-asks (Ask user query) = true
 
 -- is somebody there with this number?
 abbrev pub there : Rules → ℕ → Bool

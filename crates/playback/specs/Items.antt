@@ -7,6 +7,7 @@ use Rattle.playback.specs.declared.items.Item.{Item}
 use Rattle.playback.specs.declared.items.Item.TheVariants.{Request, NoRequest}
 use Rattle.playback.specs.declared.items.Taken.{Taken}
 use Rattle.wire.specs.NextRequest.{next_in}
+pub use Rattle.wire.specs.NextRequest.{refused}
 use Rattle.wire.specs.PolicyNumbers.{policy_layout}
 use Rattle.wire.specs.Bytes.{size}
 use Rattle.wire.specs.declared.item.Next.{Next}
@@ -22,12 +23,6 @@ abbrev pub item_in : Next → Option Taken
 item_in (next.Request r length) = Some (record { item = Request r; length = length })
 item_in (next.Fault user place length) = Some (record { item = NoRequest user place; length = length })
 item_in (next.End place) = None
-
--- why the trace is broken off, if it is
-abbrev pub refused : Next → Option Refusal
-refused (next.Request r length) = None
-refused (next.Fault user place length) = None
-refused (next.End place) = Some (refusal.NoRequest place)
 
 -- an item in front of those behind it
 abbrev pub items_by : (List ℕ → List Item) → List ℕ → Option Taken → List Item

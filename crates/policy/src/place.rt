@@ -1,14 +1,14 @@
 // Where a compartment lies in memory.
 
 // Two numbers, its version and its number of rows, then room for its capacity of rows.
-#[derive(Clone, Copy)]
+#[derive(Clone, Copy, PartialEq, Eq, Debug)]
 pub struct Place {
     pub start: usize,
     pub capacity: usize,
 }
 
 // The compartment in which a user writes, and where it lies.
-#[derive(Clone, Copy)]
+#[derive(Clone, Copy, PartialEq, Eq, Debug)]
 pub struct Written {
     pub compartment: usize,
     pub place: Place,

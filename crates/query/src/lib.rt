@@ -14,7 +14,7 @@ pub use parts::answer;
 pub use sizes::needed;
 
 // What may be asked of the compartments in a user's view.
-#[derive(Clone, Copy)]
+#[derive(Clone, Copy, PartialEq, Eq, Debug)]
 pub enum Query {
     // The rows of the range, compartment by compartment.
     Rows { range: KeyRange },
@@ -26,7 +26,7 @@ pub enum Query {
 
 // What was answered. Rows stand in the answer row: a header of 32 numbers, then key and amount of each row, from place 32 on.
 // What lies behind the last row stays as it was.
-#[derive(Clone, Copy)]
+#[derive(Clone, Copy, PartialEq, Eq, Debug)]
 pub enum Answered {
     // Place i of the header says how many rows the i-th compartment of the view gave, for each of them, and 0 stands behind;
     // the rows are in the same order.
@@ -40,7 +40,7 @@ pub enum Answered {
 }
 
 // An answer, and how many rows were examined for it.
-#[derive(Clone, Copy)]
+#[derive(Clone, Copy, PartialEq, Eq, Debug)]
 pub struct Outcome {
     pub answered: Answered,
     pub examined: usize,

@@ -5,7 +5,6 @@ ghost use Rattle.policy.specs.Views.{view_of};
 ghost use Rattle.query.specs.Looks.{room, needed_for};
 
 use crate::Query;
-use crate::looked::looks::view;
 use policy::{Contract, Policy};
 
 // By the policy alone. None where shared names a compartment that the user does not see: the row is not looked at then.
@@ -13,8 +12,8 @@ pub fn needed(policy: &Policy, contract: &Contract, query: Query) -> Option<usiz
     ensures { result ≡ needed_for (rules_of policy.now).capacity (view_of contract.now) query }
 {
     match query {
-        Query::Rows { .. } => Some(32 + 2 * room(policy, view(contract))),
-        Query::Total { .. } => Some(32 + 2 * room(policy, view(contract))),
+        Query::Rows { .. } => Some(32 + 2 * room(policy, contract.view())),
+        Query::Total { .. } => Some(32 + 2 * room(policy, contract.view())),
         Query::Shared { a, b, .. } => {
             if contract.sees(a as u64) && contract.sees(b as u64) {
                 Some(32 + 2 * capacity(policy, a as u64))

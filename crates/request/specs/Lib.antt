@@ -1,3 +1,4 @@
 pub mod Kinds
 pub mod Decoded
 pub mod Format
+pub mod Who

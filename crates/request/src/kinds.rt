@@ -3,7 +3,7 @@ ghost use Rattle.request.specs.Kinds.{kind_numbered, query_numbered};
 ghost use Rattle.std.specs.Prelude.{◌≡◌};
 
 // The kinds of requests.
-#[derive(Clone, Copy)]
+#[derive(Clone, Copy, PartialEq, Eq, Debug)]
 pub enum Kind {
     Write,
     Delete,
@@ -12,7 +12,7 @@ pub enum Kind {
 }
 
 // The kinds of queries.
-#[derive(Clone, Copy)]
+#[derive(Clone, Copy, PartialEq, Eq, Debug)]
 pub enum QueryKind {
     Rows,
     Total,

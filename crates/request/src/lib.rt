@@ -2,6 +2,7 @@
 #![tactic(auto)]
 
 ghost use Rattle.request.specs.Decoded.{decoded, query_of, request_of};
+ghost use Rattle.request.specs.Who.{who, asks};
 ghost use Rattle.std.specs.Prelude.{◌≡◌};
 
 mod kinds;
@@ -18,7 +19,7 @@ use query::Query;
 use rows::{KeyRange, Row};
 
 // A request, with the user who makes it.
-#[derive(Clone, Copy)]
+#[derive(Clone, Copy, PartialEq, Eq, Debug)]
 pub enum Request {
     // The row comes into the compartment in which the user writes.
     Write {
@@ -41,6 +42,27 @@ pub enum Request {
         user: usize,
         query: Query,
     },
+}
+
+impl Request {
+    // Who makes it.
+    pub fn user(self) -> usize
+        ensures { result ≡ who self }
+    {
+        match self {
+            Request::Write { user, .. }
+            | Request::Delete { user, .. }
+            | Request::Copy { user, .. }
+            | Request::Query { user, .. } => user,
+        }
+    }
+
+    // Whether it asks, and so changes nothing that anybody else sees.
+    pub fn is_query(self) -> bool
+        ensures { result ≡ asks self }
+    {
+        matches!(self, Request::Query { .. })
+    }
 }
 
 // The request that the numbers stand for, or the refusal at the lowest place at fault; numbers behind the last one are not looked at.

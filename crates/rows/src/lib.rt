@@ -9,21 +9,21 @@ ghost use Rattle.rows.specs.Numbers.{stands_at, place, opened, put_count, put_in
 pub mod laws;
 
 // One row of a compartment.
-#[derive(Clone, Copy)]
+#[derive(Clone, Copy, PartialEq, Eq, Debug)]
 pub struct Row {
     pub key: u32,
     pub amount: u32,
 }
 
 // All keys from one to another, both counted in.
-#[derive(Clone, Copy)]
+#[derive(Clone, Copy, PartialEq, Eq, Debug)]
 pub struct KeyRange {
     pub from: u32,
     pub to: u32,
 }
 
 // How many rows there are, and the sum of their amounts.
-#[derive(Clone, Copy)]
+#[derive(Clone, Copy, PartialEq, Eq, Debug)]
 pub struct Totals {
     pub rows: usize,
     pub amount: u64,

@@ -5,7 +5,7 @@ ghost use Rattle.store.specs.Served.{change_response, query_response};
 use policy::Refusal;
 use query::Outcome;
 
-#[derive(Clone, Copy)]
+#[derive(Clone, Copy, PartialEq, Eq, Debug)]
 pub enum Response {
     Done,
     Refused { refusal: Refusal },

@@ -6,32 +6,22 @@ use Rattle.policy.specs.declared.refusal.Refusal.{Refusal}
 use Rattle.policy.specs.declared.refusal.Refusal.TheVariants as refusal
 use Rattle.request.specs.declared.Request.{Request}
 use Rattle.request.specs.declared.Request.TheVariants as request
+pub use Rattle.request.specs.Who.{who}
 use Rattle.trace.specs.Decided.{decided}
 use Rattle.trace.specs.Lines.{line}
 use Rattle.trace.specs.declared.words.Words.TheVariants.{NoRequest}
 use Rattle.wire.specs.NextRequest.{next_in}
+pub use Rattle.wire.specs.NextRequest.{taken, refused}
 use Rattle.wire.specs.PolicyNumbers.{policy_layout}
 use Rattle.wire.specs.Bytes.{numbers_in, size}
 use Rattle.wire.specs.declared.item.Next.{Next}
 use Rattle.wire.specs.declared.item.Next.TheVariants as next
-
-abbrev pub who : Request → ℕ
-who (request.Write u row) = u
-who (request.Delete u key) = u
-who (request.Copy u c range) = u
-who (request.Query u query) = u
 
 -- the line of a request; a request that is none has one too if it is whole
 abbrev pub turn : Rules → Next → List ℕ
 turn p (next.Request r length) = line (who r) (decided p r)
 turn p (next.Fault user place length) = line user (NoRequest place)
 turn p (next.End place) = []
-
--- how many bytes it takes, unless the trace ends there
-abbrev pub taken : Next → Option ℕ
-taken (next.Request r length) = Some length
-taken (next.Fault user place length) = Some length
-taken (next.End place) = None
 
 -- something of the bytes behind a request, or what holds where the trace ends
 abbrev pub behind : {X : Type 0} → (List ℕ → X) → X → List ℕ → Option ℕ → X
@@ -42,12 +32,6 @@ behind rest end bytes (Some length) = rest (drop length bytes)
 abbrev pub lines : ℕ → Rules → List ℕ → List ℕ
 lines zero p bytes = []
 lines (suc n) p bytes = cond (length bytes == 0) [] (turn p (next_in bytes) ++ behind (lines n p) [] bytes (taken (next_in bytes)))
-
--- why the trace is broken off, if it is
-abbrev pub refused : Next → Option Refusal
-refused (next.Request r length) = None
-refused (next.Fault user place length) = None
-refused (next.End place) = Some (refusal.NoRequest place)
 
 abbrev pub ended : ℕ → List ℕ → Option Refusal
 ended zero bytes = None

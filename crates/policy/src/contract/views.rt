@@ -1,5 +1,5 @@
 // A user's view: what it holds.
-ghost use Rattle.std.specs.Prelude.{◌≡◌};
+ghost use Rattle.std.specs.Prelude.{◌≡◌, ◌≤◌, length};
 ghost use Rattle.policy.specs.Rules.{has};
 ghost use Rattle.policy.specs.Views.{view_of};
 
@@ -8,7 +8,8 @@ use super::Contract;
 impl Contract {
     // The compartments that the user sees.
     pub fn view(&self) -> &[u64]
-        ensures { result.now ≡ view_of self.now }
+        ensures value { result.now ≡ view_of self.now }
+        ensures few { length result.now ≤ 16 }
     {
         &self.places[0..self.seen]
     }

@@ -12,8 +12,8 @@ pub fn looks_at(contract: &Contract, query: Query) -> LookedAt
     ensures { places_of result ≡ looked_at (view_of contract.now) query }
 {
     match query {
-        Query::Rows { .. } => LookedAt::of(view(contract)),
-        Query::Total { .. } => LookedAt::of(view(contract)),
+        Query::Rows { .. } => LookedAt::of(contract.view()),
+        Query::Total { .. } => LookedAt::of(contract.view()),
         Query::Shared { a, b, .. } => {
             if contract.sees(a as u64) && contract.sees(b as u64) {
                 LookedAt::of(&[a as u64, b as u64])
@@ -22,14 +22,6 @@ pub fn looks_at(contract: &Contract, query: Query) -> LookedAt
             }
         }
     }
-}
-
-// The user's view, which is short.
-pub(crate) fn view(contract: &Contract) -> &[u64]
-    ensures value { result.now ≡ view_of contract.now }
-    ensures few { length result.now ≤ 16 }
-{
-    contract.view()
 }
 
 impl LookedAt {

@@ -11,7 +11,7 @@ loop-contract-preserved c =
     let p = c.args.policy.now in
     let form = c.args.form in
     let is = user_there p l.user c.in-Some.contract.now c.in-Some.ensures in
-    let pushed = rw (c.view.ensures, c.writes.ensures) at c.in_ok-push_user.ensures in (
+    let pushed = rw (c.view.ensures.value, c.writes.ensures) at c.in_ok-push_user.ensures in (
       omega (arith, is.0),
       count_on (user_of form (rules_of p)) (string_bytes l.text) p.users l.user l.invariant.1 is.0
           (pushed ∙ ap (λ (x : List ℕ). string_bytes l.text ++ x) (is.1 form)),

@@ -1,6 +1,0 @@
--- A view is short by its contract.
-use Rattle.query.proofs.Views.{view_few}
-use Rattle.query.proofs.looked.looks.view.Goals as goal
-
-pub returns : goal.returns
-returns c = record { value = c.view.ensures; few = rw c.view.ensures (view_few c.args.contract.now) }

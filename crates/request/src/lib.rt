@@ -9,7 +9,7 @@ mod kinds;
 mod laws;
 mod places;
 
-pub use kinds::{Kind, QueryKind, kind_numbered, query_numbered};
+pub use kinds::{Kind, QueryKind, UnknownKind};
 pub use laws::{
     lowest_fault_stands, read_without_fault_stands, reads_what_stands, round_trip_stands,
 };

@@ -2,7 +2,7 @@
 ghost use Rattle.std.specs.Prelude.{◌≡◌, ◌+◌, ◌^◌, ◌<◌, IfOk};
 ghost use Rattle.request.specs.Decoded.{below, compartment_at, kind_at, number_at, query_kind_at, range_at, user_at, word_at};
 
-use crate::kinds::{Kind, QueryKind, kind_numbered, query_numbered};
+use crate::kinds::{Kind, QueryKind};
 use policy::Refusal;
 use rows::KeyRange;
 
@@ -39,20 +39,14 @@ pub(crate) fn kind_at(numbers: &[u64]) -> Result<Kind, Refusal>
     ensures { result ≡ kind_at numbers.now }
 {
     let number = number_at(numbers, 0)?;
-    let Some(kind) = kind_numbered(number) else {
-        return Err(Refusal::NoRequest { place: 0 });
-    };
-    Ok(kind)
+    Kind::try_from(number).map_err(|_| Refusal::NoRequest { place: 0 })
 }
 
 pub(crate) fn query_kind_at(numbers: &[u64]) -> Result<QueryKind, Refusal>
     ensures { result ≡ query_kind_at numbers.now }
 {
     let number = number_at(numbers, 2)?;
-    let Some(kind) = query_numbered(number) else {
-        return Err(Refusal::NoRequest { place: 2 });
-    };
-    Ok(kind)
+    QueryKind::try_from(number).map_err(|_| Refusal::NoRequest { place: 2 })
 }
 
 pub(crate) fn user_at(numbers: &[u64]) -> Result<usize, Refusal>

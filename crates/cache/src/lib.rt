@@ -2,9 +2,10 @@
 #![tactic(auto)]
 
 ghost use Rattle.std.specs.Prelude.{◌≡◌, ◌/◌, ◌≤◌, ◌++◌, length};
+ghost use Rattle.cache.specs.Kept.{kept_from};
 ghost use Rattle.cache.specs.Places.{query_numbers, key_numbers, kept_numbers, kept_of, kept_in, found_in, look_up, moved_back, keep_in};
 
-use query::Query;
+use query::{Answered, Query};
 
 pub mod laws;
 
@@ -19,6 +20,22 @@ pub enum Kept {
     Shared,
     // The user doesn't see both compartments.
     NotSeen,
+}
+
+impl From<Answered> for Kept {
+    ghost from_gives = { λ answered kept. kept ≡ kept_from answered };
+
+    fn from(answered: Answered) -> Kept {
+        match answered {
+            Answered::Rows { .. } => Kept::Rows,
+            Answered::Total { rows, amount } => Kept::Total {
+                rows: rows as u64,
+                amount,
+            },
+            Answered::Shared { .. } => Kept::Shared,
+            Answered::NotSeen => Kept::NotSeen,
+        }
+    }
 }
 
 // A place is 24 numbers: the query in five, sixteen versions, and what is kept in three. Its first 21 are the key.

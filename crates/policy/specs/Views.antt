@@ -13,8 +13,12 @@ abbrev pub distinct_below : ℕ → List ℕ → Bool
 distinct_below n [] = true
 distinct_below n (c ∷ cs) = nat_lt c n && (not (has cs c) && distinct_below n cs)
 
+-- and the compartment written in is among them
+abbrev pub stands : ℕ → List ℕ → ℕ → Bool
+stands compartments view writes = distinct_below compartments view && has view writes
+
 abbrev pub valid : ℕ → Contract → Bool
-valid compartments c = distinct_below compartments (view_of c) && has (view_of c) c.writes
+valid compartments c = stands compartments (view_of c) c.writes
 
 -- sees nothing
 abbrev pub nobody : Contract

@@ -10,6 +10,6 @@ pub struct Contract {
     ghost few: { length view.items ≤ 16 },
 }
 
-mod judge;
+pub(crate) mod judge;
 mod reads;
 mod views;

@@ -17,6 +17,7 @@ mod tables;
 
 pub use array_list::ArrayList;
 pub use contract::Contract;
+pub use contract::judge::is_view;
 pub use place::{Place, Written};
 pub use refusal::Refusal;
 

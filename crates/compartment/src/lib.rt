@@ -5,20 +5,17 @@ ghost use Rattle.std.specs.Prelude.{◌≡◌, ◌+◌, ◌*◌, ◌^◌, ◌<�
 ghost use Rattle.rows.specs.Numbers.{put_count, put_into, delete_count, delete_from};
 ghost use Rattle.compartment.specs.Parts.{checked, rows_part, write_told, write_after, delete_told, delete_after, raise_told, raise_after};
 
-use policy::{Refusal, Written};
+use policy::{Refusal, VERSION_LIMIT, Written};
 use rows::Row;
 
 pub mod laws;
-
-// Every version is below it.
-const LIMIT: u64 = 1 << 40;
 
 // The number of rows, or which of the two numbers is out of bounds; the part begins at `start` in memory.
 pub fn check(part: &[u64], start: usize) -> Result<usize, Refusal>
     ensures told { result ≡ checked start part.now }
     ensures within { IfOk result (λ count. (2 + 2 * count ≤ length part.now) × (slice_index part.now 0 < 2 ^ 40)) }
 {
-    if part.len() < 2 || part[0] >= LIMIT {
+    if part.len() < 2 || part[0] >= VERSION_LIMIT {
         return Err(Refusal::OutOfBounds { place: start });
     }
     if part[1] > ((part.len() - 2) / 2) as u64 {
@@ -47,7 +44,7 @@ pub fn write(part: &mut [u64], written: Written, row: Row) -> Result<(), Refusal
     let count = check(part, written.place.start)?;
     let capacity = (part.len() - 2) / 2;
     let version = part[0];
-    if version + 1 == LIMIT {
+    if version + 1 == VERSION_LIMIT {
         if no_room(part, count, row) {
             return Err(Refusal::NoRoom { capacity });
         }
@@ -69,7 +66,7 @@ pub fn delete(part: &mut [u64], written: Written, key: u32) -> Result<(), Refusa
 {
     let count = check(part, written.place.start)?;
     let version = part[0];
-    if version + 1 == LIMIT {
+    if version + 1 == VERSION_LIMIT {
         if no_row(part, count, key) {
             return Err(Refusal::NoRow { key });
         }
@@ -95,7 +92,7 @@ pub fn raise(part: &mut [u64], written: Written, count: usize) -> Result<(), Ref
         return Err(Refusal::NoRoom { capacity });
     }
     let version = part[0];
-    if version + 1 == LIMIT {
+    if version + 1 == VERSION_LIMIT {
         return Err(Refusal::LastVersion {
             compartment: written.compartment,
         });
@@ -149,8 +146,8 @@ fn delete_row(part: &mut [u64], count: usize, key: u32) -> Option<usize>
 
 #[cfg(test)]
 mod tests {
-    use super::{LIMIT, delete, raise, rows_of, write};
-    use policy::{Place, Refusal, Written};
+    use super::{delete, raise, rows_of, write};
+    use policy::{Place, Refusal, VERSION_LIMIT, Written};
     use rows::Row;
 
     const WRITTEN: Written = Written {
@@ -179,7 +176,7 @@ mod tests {
 
     #[test]
     fn keeps_the_last_version(rt: HostRuntime) {
-        let mut part = [LIMIT - 1, 1, 7, 70];
+        let mut part = [VERSION_LIMIT - 1, 1, 7, 70];
         let last = write(&mut part, WRITTEN, Row { key: 7, amount: 71 });
         assert!(rt; matches!(last, Err(Refusal::LastVersion { compartment: 3 })));
         let full = write(&mut part, WRITTEN, Row { key: 8, amount: 80 });
@@ -188,7 +185,7 @@ mod tests {
         assert!(rt; matches!(none, Err(Refusal::NoRow { key: 8 })));
         let last = raise(&mut part, WRITTEN, 1);
         assert!(rt; matches!(last, Err(Refusal::LastVersion { compartment: 3 })));
-        assert!(rt; part == [LIMIT - 1, 1, 7, 70]);
+        assert!(rt; part == [VERSION_LIMIT - 1, 1, 7, 70]);
     }
 
     #[test]
@@ -201,7 +198,7 @@ mod tests {
         );
         assert!(rt;
             matches!(
-                super::check(&[LIMIT, 2, 0, 0], 10),
+                super::check(&[VERSION_LIMIT, 2, 0, 0], 10),
                 Err(Refusal::OutOfBounds { place: 10 })
             )
         );

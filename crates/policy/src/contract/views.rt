@@ -11,7 +11,7 @@ impl Contract {
         ensures value { result.now ≡ view_of self.now }
         ensures few { length result.now ≤ 16 }
     {
-        &self.places[0..self.seen]
+        self.view.as_slice()
     }
 
     // The compartment in which the user writes.

@@ -50,6 +50,19 @@ abbrev pub after_by : List ℕ → List ℕ → Option ℕ → List ℕ
 after_by changed part None = part
 after_by changed part (Some count) = cond (nat_lt (slice_index part 0 + 1) limit) (raised (slice_index part 0) count changed) part
 
+-- what any change tells, by the refusal at a capacity and the number of rows after it, and the part afterwards
+abbrev pub change_told : ℕ → ℕ → (ℕ → Refusal) → (ℕ → List ℕ → Option ℕ) → List ℕ → Result (Unit {0}) Refusal
+change_told start compartment refusal count part =
+    cond (sound part)
+    (told_by compartment (refusal (capacity part)) part (count (slice_index part 1) (drop 2 part)))
+    (Err (fault start part))
+
+abbrev pub change_after : (ℕ → List ℕ → Option ℕ) → (ℕ → List ℕ → List ℕ) → List ℕ → List ℕ
+change_after count rows part =
+    cond (sound part)
+    (after_by (take 2 part ++ rows (slice_index part 1) (drop 2 part)) part (count (slice_index part 1) (drop 2 part)))
+    part
+
 abbrev pub write_told : ℕ → ℕ → Row → List ℕ → Result (Unit {0}) Refusal
 write_told start compartment row part =
     cond (sound part)
@@ -77,6 +90,10 @@ delete_after key part =
 -- a number of rows, where there is room for them
 abbrev pub fitting : ℕ → List ℕ → Option ℕ
 fitting count part = cond (nat_le count (capacity part)) (Some count) None
+
+-- the same, of the memory of the rows
+abbrev pub refilled : ℕ → List ℕ → Option ℕ
+refilled count rows = cond (nat_le count (length rows / 2)) (Some count) None
 
 -- a change to a number of rows, which are written later
 abbrev pub raise_told : ℕ → ℕ → ℕ → List ℕ → Result (Unit {0}) Refusal

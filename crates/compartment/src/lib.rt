@@ -1,7 +1,7 @@
 // One compartment's part of memory: its version, its number of rows, and room for its capacity of rows of two numbers.
 #![tactic(auto)]
 
-ghost use Rattle.std.specs.Prelude.{◌≡◌, ◌+◌, ◌*◌, ◌^◌, ◌<◌, ◌≤◌, not, ◌++◌, length, take, drop, is_some, IfOk, slice_index, slice_set};
+ghost use Rattle.std.specs.Prelude.{◌≡◌, ◌+◌, ◌*◌, ◌^◌, ◌<◌, ◌≤◌, length, IfOk, slice_index};
 ghost use Rattle.compartment.specs.Parts.{checked, rows_part, change_told, change_after, write_told, write_after, delete_told, delete_after, raise_told, raise_after};
 
 use changes::{Change, Put, Refill, Without};
@@ -16,25 +16,25 @@ pub fn check(part: &[u64], start: usize) -> Result<usize, Refusal>
     ensures told { result ≡ checked start part.now }
     ensures within { IfOk result (λ count. (2 + 2 * count ≤ length part.now) × (slice_index part.now 0 < 2 ^ 40)) }
 {
-    if part.len() < 2 || part[0] >= VERSION_LIMIT {
-        return Err(Refusal::OutOfBounds { place: start });
+    match part {
+        [version, count, rows @ ..] if *version < VERSION_LIMIT => match usize::try_from(*count) {
+            Ok(count) if count <= rows.len() / 2 => Ok(count),
+            _ => Err(Refusal::OutOfBounds {
+                place: start.saturating_add(1),
+            }),
+        },
+        _ => Err(Refusal::OutOfBounds { place: start }),
     }
-    if part[1] > ((part.len() - 2) / 2) as u64 {
-        return Err(Refusal::OutOfBounds {
-            place: start.saturating_add(1),
-        });
-    }
-    Ok(part[1] as usize)
 }
 
 // The first `count` rows; none where the part doesn't hold as many.
 pub fn rows_of(part: &[u64], count: usize) -> &[u64]
     ensures { result.now ≡ rows_part count part.now }
 {
-    if part.len() < 2 || count > (part.len() - 2) / 2 {
-        return &part[..0];
+    match part {
+        [_, _, rows @ ..] if count <= rows.len() / 2 => &rows[..2 * count],
+        _ => &part[..0],
     }
-    &part[2..2 + 2 * count]
 }
 
 // Writes a row, in place of the one with its key, and raises the version; a refusal changes nothing.

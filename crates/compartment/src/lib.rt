@@ -1,13 +1,14 @@
 // One compartment's part of memory: its version, its number of rows, and room for its capacity of rows of two numbers.
 #![tactic(auto)]
 
-ghost use Rattle.std.specs.Prelude.{◌≡◌, ◌+◌, ◌*◌, ◌^◌, ◌<◌, ◌≤◌, not, ◌++◌, length, take, drop, is_some, IfOk, slice_index, slice_set};
-ghost use Rattle.rows.specs.Numbers.{put_count, put_into, delete_count, delete_from};
-ghost use Rattle.compartment.specs.Parts.{checked, rows_part, write_told, write_after, delete_told, delete_after, raise_told, raise_after};
+ghost use Rattle.std.specs.Prelude.{◌≡◌, ◌+◌, ◌*◌, ◌^◌, ◌<◌, ◌≤◌, length, IfOk, slice_index};
+ghost use Rattle.compartment.specs.Parts.{checked, rows_part, change_told, change_after, write_told, write_after, delete_told, delete_after, raise_told, raise_after};
 
+use changes::{Change, Put, Refill, Without};
 use policy::{Refusal, VERSION_LIMIT, Written};
 use rows::Row;
 
+mod changes;
 pub mod laws;
 
 // The number of rows, or which of the two numbers is out of bounds; the part begins at `start` in memory.
@@ -15,25 +16,25 @@ pub fn check(part: &[u64], start: usize) -> Result<usize, Refusal>
     ensures told { result ≡ checked start part.now }
     ensures within { IfOk result (λ count. (2 + 2 * count ≤ length part.now) × (slice_index part.now 0 < 2 ^ 40)) }
 {
-    if part.len() < 2 || part[0] >= VERSION_LIMIT {
-        return Err(Refusal::OutOfBounds { place: start });
+    match part {
+        [version, count, rows @ ..] if *version < VERSION_LIMIT => match usize::try_from(*count) {
+            Ok(count) if count <= rows.len() / 2 => Ok(count),
+            _ => Err(Refusal::OutOfBounds {
+                place: start.saturating_add(1),
+            }),
+        },
+        _ => Err(Refusal::OutOfBounds { place: start }),
     }
-    if part[1] > ((part.len() - 2) / 2) as u64 {
-        return Err(Refusal::OutOfBounds {
-            place: start.saturating_add(1),
-        });
-    }
-    Ok(part[1] as usize)
 }
 
 // The first `count` rows; none where the part doesn't hold as many.
 pub fn rows_of(part: &[u64], count: usize) -> &[u64]
     ensures { result.now ≡ rows_part count part.now }
 {
-    if part.len() < 2 || count > (part.len() - 2) / 2 {
-        return &part[..0];
+    match part {
+        [_, _, rows @ ..] if count <= rows.len() / 2 => &rows[..2 * count],
+        _ => &part[..0],
     }
-    &part[2..2 + 2 * count]
 }
 
 // Writes a row, in place of the one with its key, and raises the version; a refusal changes nothing.
@@ -41,22 +42,7 @@ pub fn write(part: &mut [u64], written: Written, row: Row) -> Result<(), Refusal
     ensures told { result ≡ write_told written.place.start written.compartment row part.old }
     ensures after { part.new ≡ write_after row part.old }
 {
-    let count = check(part, written.place.start)?;
-    let capacity = (part.len() - 2) / 2;
-    let version = part[0];
-    if version + 1 == VERSION_LIMIT {
-        if no_room(part, count, row) {
-            return Err(Refusal::NoRoom { capacity });
-        }
-        return Err(Refusal::LastVersion {
-            compartment: written.compartment,
-        });
-    }
-    let Some(count) = put_row(part, count, row) else {
-        return Err(Refusal::NoRoom { capacity });
-    };
-    set_numbers(part, version + 1, count);
-    Ok(())
+    change(part, written, Put(row))
 }
 
 // Deletes the row with a key, and raises the version; a refusal changes nothing.
@@ -64,21 +50,7 @@ pub fn delete(part: &mut [u64], written: Written, key: u32) -> Result<(), Refusa
     ensures told { result ≡ delete_told written.place.start written.compartment key part.old }
     ensures after { part.new ≡ delete_after key part.old }
 {
-    let count = check(part, written.place.start)?;
-    let version = part[0];
-    if version + 1 == VERSION_LIMIT {
-        if no_row(part, count, key) {
-            return Err(Refusal::NoRow { key });
-        }
-        return Err(Refusal::LastVersion {
-            compartment: written.compartment,
-        });
-    }
-    let Some(count) = delete_row(part, count, key) else {
-        return Err(Refusal::NoRow { key });
-    };
-    set_numbers(part, version + 1, count);
-    Ok(())
+    change(part, written, Without(key))
 }
 
 // Raises the version and sets the number of rows, which the caller then writes; a refusal changes nothing.
@@ -86,62 +58,31 @@ pub fn raise(part: &mut [u64], written: Written, count: usize) -> Result<(), Ref
     ensures told { result ≡ raise_told written.place.start written.compartment count part.old }
     ensures after { part.new ≡ raise_after count part.old }
 {
-    let _ = check(part, written.place.start)?;
+    change(part, written, Refill(count))
+}
+
+// Any change of the rows, which raises the version: where both refuse, the rows do.
+fn change<C: Change>(part: &mut [u64], written: Written, change: C) -> Result<(), Refusal>
+    ensures told { result ≡ change_told written.place.start written.compartment (C.refusal_told change) (C.count_after change) part.old }
+    ensures after { part.new ≡ change_after (C.count_after change) (C.rows_after change) part.old }
+{
+    let count = check(part, written.place.start)?;
     let capacity = (part.len() - 2) / 2;
-    if count > capacity {
-        return Err(Refusal::NoRoom { capacity });
-    }
-    let version = part[0];
-    if version + 1 == VERSION_LIMIT {
+    let version = part[0] + 1;
+    if version == VERSION_LIMIT {
+        if !change.fits(&part[2..], count) {
+            return Err(change.refusal(capacity));
+        }
         return Err(Refusal::LastVersion {
             compartment: written.compartment,
         });
     }
-    set_numbers(part, version + 1, count);
-    Ok(())
-}
-
-// The version and the number of rows.
-fn set_numbers(part: &mut [u64], version: u64, count: usize)
-    requires { 2 ≤ length part.old }
-    ensures { part.new ≡ slice_set (slice_set part.old 0 version) 1 count }
-{
+    let Some(count) = change.make(&mut part[2..], count) else {
+        return Err(change.refusal(capacity));
+    };
     part[0] = version;
     part[1] = count as u64;
-}
-
-// Whether the row would be one too many.
-fn no_room(part: &[u64], count: usize, row: Row) -> bool
-    requires { 2 + 2 * count ≤ length part.now }
-    ensures { is_some (put_count count row (drop 2 part.now)) ≡ not result }
-{
-    count == (part.len() - 2) / 2 && rows::find(rows_of(part, count), row.key as u64).is_none()
-}
-
-// Whether no row has the key.
-fn no_row(part: &[u64], count: usize, key: u32) -> bool
-    requires { 2 + 2 * count ≤ length part.now }
-    ensures { is_some (delete_count count key (drop 2 part.now)) ≡ not result }
-{
-    rows::find(rows_of(part, count), key as u64).is_none()
-}
-
-// The put, behind the two numbers.
-fn put_row(part: &mut [u64], count: usize, row: Row) -> Option<usize>
-    requires { 2 ≤ length part.old }
-    ensures told { result ≡ put_count count row (drop 2 part.old) }
-    ensures after { part.new ≡ take 2 part.old ++ put_into count row (drop 2 part.old) }
-{
-    rows::put(&mut part[2..], count, row)
-}
-
-// The delete, behind the two numbers.
-fn delete_row(part: &mut [u64], count: usize, key: u32) -> Option<usize>
-    requires { 2 ≤ length part.old }
-    ensures told { result ≡ delete_count count key (drop 2 part.old) }
-    ensures after { part.new ≡ take 2 part.old ++ delete_from count key (drop 2 part.old) }
-{
-    rows::delete(&mut part[2..], count, key)
+    Ok(())
 }
 
 #[cfg(test)]

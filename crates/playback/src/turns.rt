@@ -9,7 +9,7 @@ use super::audience::Audience;
 use super::items::{Item, Taken, item_in, refused};
 use policy::{Policy, Refusal};
 use std::alloc::AllocError;
-use store::Response;
+use store::Reply;
 
 // Plays the items in the bytes; says why the trace was broken off, if it was.
 pub(crate) fn play_items(
@@ -60,16 +60,19 @@ fn play_item(
     push_line(text, user, response, row)
 }
 
-fn serve_item(policy: &Policy, memory: &mut [u64], row: &mut [u64], item: Item) -> Response
+fn serve_item(
+    policy: &Policy,
+    memory: &mut [u64],
+    row: &mut [u64],
+    item: Item,
+) -> Result<Reply, Refusal>
     ensures told { result ≡ item_told policy.now memory.old (length row.old) item }
     ensures after { memory.new ≡ item_memory policy.now memory.old (length row.old) item }
     ensures lent { row.new ≡ item_row policy.now memory.old row.old item }
 {
     match item {
         Item::Request { request } => store::serve(policy, memory, row, request),
-        Item::NoRequest { place, .. } => Response::Refused {
-            refusal: Refusal::NoRequest { place },
-        },
+        Item::NoRequest { place, .. } => Err(Refusal::NoRequest { place }),
     }
 }
 
@@ -77,14 +80,14 @@ fn serve_item(policy: &Policy, memory: &mut [u64], row: &mut [u64], item: Item) 
 fn push_line(
     text: &mut String,
     user: usize,
-    response: Response,
+    response: Result<Reply, Refusal>,
     row: &[u64],
 ) -> Result<(), AllocError>
     ensures { OnOk result (string_bytes text.new ≡ string_bytes text.old ++ line user (heard response row.now)) }
 {
     match response {
-        Response::Done => words::push_done_line(text, user),
-        Response::Refused { refusal } => words::push_refused_line(text, user, refusal),
-        Response::Answered { outcome } => words::push_answered_line(text, user, outcome, row),
+        Ok(Reply::Done) => words::push_done_line(text, user),
+        Err(refusal) => words::push_refused_line(text, user, refusal),
+        Ok(Reply::Answered { outcome }) => words::push_answered_line(text, user, outcome, row),
     }
 }

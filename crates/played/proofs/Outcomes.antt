@@ -1,5 +1,5 @@
 -- What comes of the bytes of a trace: one item on.
-use Rattle.std.proofs.Common.{◌≡◌, ◌≢◌, ℕ, zero, suc, ◌+◌, ◌-◌, ◌<◌, ◌≤◌, min, false, eqb, ltb, List, [], ◌∷◌, length, take, drop, Some, None, Ok, Err, Option, Result, IfSome, sym, refl, ◌∙◌, inl, inr, lit<, arith}
+use Rattle.std.proofs.Common.{◌≡◌, ◌≢◌, ℕ, zero, suc, ◌-◌, ◌<◌, ◌≤◌, min, false, eqb, ltb, List, [], ◌∷◌, length, take, drop, Some, None, Ok, Err, Option, Result, IfSome, sym, refl, ◌∙◌, inl, inr, lit<, arith}
 use Rattle.played.specs.Items.{outcomes, outcomes_by}
 use Rattle.played.specs.declared.items.Item.{Item}
 use Rattle.policy.specs.declared.refusal.Refusal.{Refusal}

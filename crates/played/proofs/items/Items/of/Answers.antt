@@ -1,5 +1,4 @@
 use Rattle.std.proofs.Common.{ℕ, min, length, ap, ◌∙◌}
-use Rattle.played.specs.Items.{outcomes}
 use Rattle.played.proofs.Outcomes.{all, cut_behind}
 use Rattle.wire.specs.Bytes.{size}
 use Rattle.wire.specs.PolicyNumbers.{policy_layout}

@@ -7,26 +7,18 @@ ghost use Rattle.wire.specs.NextRequest.{OfRequest, fours, kind_in, place_at_fau
 use crate::layout::Layout;
 use crate::numbers::numbers_in;
 use policy::Refusal;
-use request::{Kind, QueryKind, Request, decode, kind_numbered, query_numbered};
+use request::{Kind, QueryKind, Request, decode};
 
 fn kind_in(bytes: &[u8]) -> Option<Kind>
     ensures { result ≡ kind_in bytes.now }
 {
-    if 0 < bytes.len() {
-        kind_numbered(bytes[0] as u64)
-    } else {
-        None
-    }
+    Kind::try_from(u64::from(*bytes.first()?)).ok()
 }
 
 fn query_kind_in(bytes: &[u8]) -> Option<QueryKind>
     ensures { result ≡ query_kind_in bytes.now }
 {
-    if 2 < bytes.len() {
-        query_numbered(bytes[2] as u64)
-    } else {
-        None
-    }
+    QueryKind::try_from(u64::from(*bytes.get(2)?)).ok()
 }
 
 // So many numbers of a byte each, then so many of four.

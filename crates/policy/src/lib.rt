@@ -6,6 +6,7 @@ ghost use Rattle.policy.specs.Layout.{starts_from, end_from};
 ghost use Rattle.policy.specs.Policies.{flow_table, all_valid, all_within};
 
 mod access;
+mod array_list;
 mod contract;
 mod judge;
 pub mod laws;
@@ -14,7 +15,9 @@ mod read;
 mod refusal;
 mod tables;
 
+pub use array_list::ArrayList;
 pub use contract::Contract;
+pub use contract::judge::is_view;
 pub use place::{Place, Written};
 pub use refusal::Refusal;
 

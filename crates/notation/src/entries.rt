@@ -1,6 +1,7 @@
 // What a line adds to a trace.
-ghost use Rattle.notation.specs.Lines.{capacity_said, count_said, entry_at, entry_said};
-ghost use Rattle.std.specs.Prelude.{◌≡◌};
+ghost use Rattle.notation.specs.Lines.{capacity_said, count_said, then};
+ghost use Rattle.notation.specs.Said.{adds, entry_at, entry_said};
+ghost use Rattle.std.specs.Prelude.{◌≡◌, Ok};
 
 use crate::fault::Reason;
 use crate::line::Line;
@@ -8,19 +9,13 @@ use crate::names::Name;
 use crate::requests::request_in;
 use crate::stages::{Stage, stage_of};
 use crate::users::user_in;
+use policy::ArrayList;
 use request::Request;
-
-// The compartments that a user sees: the first `seen` places; behind them lies 0.
-#[derive(Clone, Copy)]
-pub(crate) struct View {
-    pub(crate) places: [u64; 16],
-    pub(crate) seen: usize,
-}
 
 // What a user sees, and the compartment in which they write.
 #[derive(Clone, Copy)]
 pub(crate) struct Contract {
-    pub(crate) view: View,
+    pub(crate) view: ArrayList<u64, 16>,
     pub(crate) writes: u64,
 }
 
@@ -53,7 +48,7 @@ fn capacity_in(line: Line, compartment: usize) -> Result<u64, Reason>
 }
 
 fn entry_at(line: Line, stage: Stage) -> Result<Entry, Reason>
-    ensures { result ≡ entry_at stage line.entry.bytes.now }
+    ensures { then result (λ e. Ok (adds e)) ≡ entry_at stage line.entry.bytes.now }
 {
     match stage {
         Stage::Users => {
@@ -80,7 +75,7 @@ fn entry_at(line: Line, stage: Stage) -> Result<Entry, Reason>
 }
 
 pub(crate) fn entry_in(numbers: &[u64], line: Line) -> Result<Entry, Reason>
-    ensures { result ≡ entry_said numbers.now line.entry.bytes.now }
+    ensures { then result (λ e. Ok (adds e)) ≡ entry_said numbers.now line.entry.bytes.now }
 {
     if line.is_silent() {
         Ok(Entry::Nothing)

@@ -1,6 +1,6 @@
 // Reading a text line by line.
 ghost use Rattle.notation.specs.Lines.{then};
-ghost use Rattle.notation.specs.Said.{Tells, added, at_line, line_said, lines_said, said_of, whole};
+ghost use Rattle.notation.specs.Said.{Tells, added, adds, at_line, line_said, lines_said, said_of, whole};
 ghost use Rattle.notation.specs.Words.{lines};
 ghost use Rattle.std.specs.Prelude.{◌≡◌, Ok, OnOk};
 
@@ -11,19 +11,21 @@ use crate::line::Line;
 use crate::stages::{Stage, stage_of};
 use std::alloc::AllocError;
 
-// Adds what a user's line says.
+// Adds what a user's line says: behind the view lies 0, up to sixteen places.
 fn add_contract(trace: &mut Trace, contract: Contract) -> Result<(), AllocError>
-    ensures { OnOk result (said_of trace.new ≡ added (said_of trace.old) (Entry.User contract)) }
+    ensures { OnOk result (said_of trace.new ≡ added (said_of trace.old) (adds (Entry.User contract))) }
 {
-    trace.numbers.push(contract.view.seen as u64)?;
-    trace.numbers.extend_from_slice(&contract.view.places)?;
+    let view = contract.view.as_slice();
+    trace.numbers.push(view.len() as u64)?;
+    trace.numbers.extend_from_slice(view)?;
+    trace.numbers.extend_from_slice(&[0; 16][view.len()..])?;
     trace.numbers.push(contract.writes)?;
     Ok(())
 }
 
 // Adds what a line says.
 fn add(trace: &mut Trace, entry: Entry) -> Result<(), AllocError>
-    ensures { OnOk result (said_of trace.new ≡ added (said_of trace.old) entry) }
+    ensures { OnOk result (said_of trace.new ≡ added (said_of trace.old) (adds entry)) }
 {
     match entry {
         Entry::Nothing => {}

@@ -14,14 +14,14 @@ pub struct Layout {
 
 impl Layout {
     // How many bytes all the numbers take.
-    pub fn size(self) -> usize
+    pub(crate) fn size(self) -> usize
         ensures { result ≡ size self }
     {
         usize::from(self.single) + usize::from(self.width) * usize::from(self.wide)
     }
 
     // Fills `numbers` with those that lie in the bytes, as far as they are there, and says how many these are.
-    pub fn fill(self, bytes: &[u8], numbers: &mut [u64]) -> usize
+    pub(crate) fn fill(self, bytes: &[u8], numbers: &mut [u64]) -> usize
         requires { self.single + self.wide ≤ length numbers.old }
         ensures count { result ≡ length (numbers_in self bytes.now) }
         ensures within { result ≤ length numbers.old }
@@ -38,7 +38,7 @@ impl Layout {
     }
 
     // The numbers that lie in the bytes, as far as they are there: `numbers` is where they are read to.
-    pub fn read<'a>(self, bytes: &[u8], numbers: &'a mut [u64]) -> &'a [u64]
+    pub(crate) fn read<'a>(self, bytes: &[u8], numbers: &'a mut [u64]) -> &'a [u64]
         requires { self.single + self.wide ≤ length numbers.old }
         ensures { result.now ≡ numbers_in self bytes.now }
     {

@@ -121,13 +121,17 @@ capacity_said compartment line =
 abbrev pub single_numbers : List ℕ → ℕ
 single_numbers ns = cond (nat_lt 32 (users_in ns)) 2 (user_at (users_in ns))
 
+-- what comes next behind so many numbers, two counts among them
+abbrev pub behind_counts : ℕ → ℕ → ℕ → Stage
+behind_counts count single compartments =
+    cond (nat_lt count single) (stage.User ((count - 2) / 18) compartments)
+    (cond (nat_lt (count - single) compartments) (stage.Capacity (count - single)) stage.Requests)
+
 -- what comes next behind the numbers of a policy
 abbrev pub stage_of : List ℕ → Stage
 stage_of ns =
     cond (length ns == 0) stage.Users
-    (cond (length ns == 1) stage.Compartments
-    (cond (nat_lt (length ns) (single_numbers ns)) (stage.User ((length ns - 2) / 18) (compartments_in ns))
-    (cond (nat_lt (length ns - single_numbers ns) (compartments_in ns)) (stage.Capacity (length ns - single_numbers ns)) stage.Requests)))
+    (cond (length ns == 1) stage.Compartments (behind_counts (length ns) (single_numbers ns) (compartments_in ns)))
 
 -- blank, or a remark
 abbrev pub silent : List ℕ → Bool

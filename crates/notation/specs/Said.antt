@@ -1,5 +1,5 @@
 -- What a text says: the numbers of a policy and the requests behind it, line by line.
-use Rattle.std.specs.Prelude.{ℕ, ◌+◌, ◌-◌, List, [], ◌∷◌, ◌++◌, Some, None, Ok, Err, vec_items, Option, Result}
+use Rattle.std.specs.Prelude.{◌≡◌, ℕ, ◌+◌, ◌-◌, List, [], ◌∷◌, ◌++◌, Ok, Err, vec_items, Result}
 use Rattle.request.specs.declared.Request.{Request}
 use Rattle.notation.specs.Lines.{then, stage_of, entry_said}
 use Rattle.notation.specs.Words.{lines}
@@ -8,6 +8,8 @@ use Rattle.notation.specs.declared.entries.Contract.{Contract}
 use Rattle.notation.specs.declared.entries.Entry.{Entry}
 use Rattle.notation.specs.declared.entries.Entry.TheVariants as entry
 use Rattle.notation.specs.declared.fault.Fault.{Fault}
+use Rattle.notation.specs.declared.fault.ReadError.{ReadError}
+use Rattle.notation.specs.declared.fault.ReadError.TheVariants as error
 use Rattle.notation.specs.declared.fault.Reason.{Reason}
 use Rattle.notation.specs.declared.fault.Reason.TheVariants.{Unfinished}
 use Rattle.notation.specs.declared.stages.Stage.{Stage}
@@ -70,15 +72,12 @@ nothing = record { numbers = []; requests = [] }
 abbrev pub trace_in : List ℕ → Result Said Fault
 trace_in text = lines_said 1 nothing (lines text)
 
--- what was read, or why not
-abbrev pub held : Result Trace Fault → Result Said Fault
-held (Ok trace) = Ok (said_of trace)
-held (Err fault) = Err fault
+-- a fault is what the text has; where there is no memory, nothing is promised
+abbrev pub Fails : ReadError → Result Said Fault → Type 0
+Fails (error.Fault fault) all = Err fault ≡ all
+Fails error.OutOfMemory all = Unit {0}
 
-abbrev pub unless : {E : Type 0} → Option E → Said → Result Said E
-unless None said = Ok said
-unless (Some e) said = Err e
-
-abbrev pub fault_at : ℕ → Option Reason → Option Fault
-fault_at n None = None
-fault_at n (Some reason) = Some (record { line = n; reason = reason })
+-- what is told of a text is what it says, or its fault
+abbrev pub Tells : {A : Type 0} → (A → Said) → Result A ReadError → Result Said Fault → Type 0
+Tells said (Ok x) all = Ok (said x) ≡ all
+Tells said (Err e) all = Fails e all

@@ -6,22 +6,21 @@ ghost use Rattle.policy.specs.Views.{distinct_below};
 
 use crate::entries::{Contract, View};
 use crate::fault::Reason;
+use crate::line::Line;
 use crate::names::Name;
-use crate::names::spelled::is_named;
-use crate::numbers::{ends, named, next_at, number_at};
-use crate::words::word_at;
 
 // The numbers behind `sees`, up to the word `writes`.
-fn view_in(line: &[u8]) -> Result<View, Reason>
-    ensures value { result ≡ view_read line.now }
+fn view_in(line: Line) -> Result<View, Reason>
+    ensures value { result ≡ view_read line.entry.bytes.now }
     ensures few { IfOk result (λ v. v.seen ≤ 16) }
 {
     let mut places = [0; 16];
     for i in 0..16 {
-        if is_named(word_at(line, 3 + i), Name::Writes) {
+        let place = (3 + i) as u8;
+        if line.is_named(place, Name::Writes) {
             return Ok(View { places, seen: i });
         }
-        places[i] = number_at(line, 3 + i)?;
+        places[i] = line.number(place)?;
     }
     Ok(View { places, seen: 16 })
 }
@@ -56,14 +55,15 @@ fn stands(view: &[u64], compartments: u64, writes: u64) -> bool
 }
 
 // What stands behind `sees`.
-fn seen_in(line: &[u8], compartments: u64) -> Result<Contract, Reason>
-    ensures { result ≡ view_said compartments line.now }
+fn seen_in(line: Line, compartments: u64) -> Result<Contract, Reason>
+    ensures { result ≡ view_said compartments line.entry.bytes.now }
 {
     let view = view_in(line)?;
     let seen = view.seen;
-    named(line, 3 + seen, Name::Writes)?;
-    let writes = number_at(line, 4 + seen)?;
-    ends(line, 5 + seen)?;
+    let place = (3 + seen) as u8;
+    line.named(place, Name::Writes)?;
+    let writes = line.number(place + 1)?;
+    line.ends(place + 2)?;
     if stands(&view.places[0..seen], compartments, writes) {
         Ok(Contract { view, writes })
     } else {
@@ -71,11 +71,11 @@ fn seen_in(line: &[u8], compartments: u64) -> Result<Contract, Reason>
     }
 }
 
-pub(crate) fn user_in(line: &[u8], user: usize, compartments: u64) -> Result<Contract, Reason>
-    ensures { result ≡ user_said user compartments line.now }
+pub(crate) fn user_in(line: Line, user: usize, compartments: u64) -> Result<Contract, Reason>
+    ensures { result ≡ user_said user compartments line.entry.bytes.now }
 {
-    named(line, 0, Name::User)?;
-    next_at(line, 1, user)?;
-    named(line, 2, Name::Sees)?;
+    line.named(0, Name::User)?;
+    line.next(1, user)?;
+    line.named(2, Name::Sees)?;
     seen_in(line, compartments)
 }

@@ -19,8 +19,7 @@ pub use item::Next;
 pub use laws::{
     policy_round_trip_stands, refused_at_place_stands, request_round_trip_stands, request_stands,
 };
-use numbers::numbers_in;
-use policies::{MOST_NUMBERS, policy_layout, read_by};
+use policies::{MOST_NUMBERS, policy_layout};
 use policy::{Policy, Refusal};
 use requests::{decode_by, fours, place_at_fault, request_layout};
 
@@ -35,7 +34,7 @@ pub fn next(bytes: &[u8]) -> Next
         };
     };
     let decoded = decode_by(layout, bytes);
-    let length = layout.single + layout.width * layout.wide;
+    let length = layout.size();
     if bytes.len() < length {
         return Next::End {
             place: place_at_fault(decoded),
@@ -43,9 +42,9 @@ pub fn next(bytes: &[u8]) -> Next
     }
     match decoded {
         Ok(request) => Next::Request { request, length },
-        Err(refusal) => Next::Fault {
+        Err(_) => Next::Fault {
             user: bytes[1],
-            place: place_at_fault(Err(refusal)),
+            place: place_at_fault(decoded),
             length,
         },
     }
@@ -61,7 +60,7 @@ pub fn policy_numbers(bytes: &[u8], numbers: &mut [u64]) -> usize
     if numbers.len() < MOST_NUMBERS {
         return 0;
     }
-    numbers_in(policy_layout(bytes), bytes, numbers)
+    policy_layout(bytes).fill(bytes, numbers)
 }
 
 // The policy at the front of the bytes, with capacities of at most `most` rows, and never more than 4,096.
@@ -69,15 +68,15 @@ pub fn read_policy(bytes: &[u8], most: u64) -> Result<Policy, Refusal>
     ensures refused { why result ≡ judged (min most 4096) (policy_of bytes.now) }
     ensures reads { IfOk result (λ p. Reads (policy_of bytes.now) p) }
 {
-    read_by(policy_layout(bytes), bytes, most)
+    let layout = policy_layout(bytes);
+    Policy::read(layout.read(bytes, &mut [0; MOST_NUMBERS]), most)
 }
 
 // How many bytes the policy takes: where the requests begin.
 pub fn policy_length(bytes: &[u8]) -> usize
     ensures { result ≡ size (policy_layout bytes.now) }
 {
-    let policy = policy_layout(bytes);
-    policy.single + policy.width * policy.wide
+    policy_layout(bytes).size()
 }
 
 #[cfg(test)]

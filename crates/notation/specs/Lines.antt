@@ -1,5 +1,5 @@
 -- What a line says: a count, a user's contract, a capacity or a request.
-use Rattle.std.specs.Prelude.{ℕ, zero, suc, ◌+◌, ◌-◌, ◌/◌, Bool, cond, ◌&&◌, ◌||◌, List, [], ◌∷◌, ◌++◌, length, take, replicate, Ok, Err, Result, ◌==◌, nat_le, nat_lt, slice_index}
+use Rattle.std.specs.Prelude.{ℕ, zero, suc, ◌+◌, ◌-◌, ◌/◌, Bool, cond, ◌&&◌, ◌||◌, List, [], ◌∷◌, length, Ok, Err, Result, ◌==◌, nat_le, nat_lt, slice_index}
 use Rattle.std.specs.Option.{ok_or}
 use Rattle.std.specs.Str.{bytes_eq}
 use Rattle.rows.specs.declared.KeyRange.{KeyRange}
@@ -8,6 +8,8 @@ use Rattle.policy.specs.Views.{stands}
 use Rattle.query.specs.declared.Query.{Query}
 use Rattle.query.specs.declared.Query.TheVariants as query
 use Rattle.request.specs.declared.Request.{Request}
+use Rattle.request.specs.declared.kinds.QueryKind.{QueryKind}
+use Rattle.request.specs.declared.kinds.QueryKind.TheVariants.{Rows, Total, Shared}
 use Rattle.request.specs.declared.Request.TheVariants as request
 use Rattle.notation.specs.Names.{spelled, verb_of}
 use Rattle.notation.specs.Words.{word_at, number_of}
@@ -16,7 +18,7 @@ use Rattle.notation.specs.declared.fault.Reason.TheVariants.{Expected, NotNext, 
 use Rattle.notation.specs.declared.names.Name.{Name}
 use Rattle.notation.specs.declared.names.Name.TheVariants as name
 use Rattle.notation.specs.declared.names.Verb.{Verb}
-use Rattle.notation.specs.declared.names.Verb.TheVariants.{Write, Delete, Copy, Rows, Total, Shared}
+use Rattle.notation.specs.declared.names.Verb.TheVariants as verb
 use Rattle.notation.specs.declared.stages.Stage.{Stage}
 use Rattle.notation.specs.declared.stages.Stage.TheVariants as stage
 
@@ -61,20 +63,20 @@ range_at line place =
     then (key_at line place)
     (λ from. then (key_at line (place + 1)) (λ to. then (ends line (place + 2)) (λ _. Ok (record { from = from; to = to }))))
 
-abbrev pub shared_said : List ℕ → Result Query Reason
-shared_said line =
+abbrev pub query_said : QueryKind → List ℕ → Result Query Reason
+query_said Rows line = then (range_at line 2) (λ range. Ok (query.Rows range))
+query_said Total line = then (range_at line 2) (λ range. Ok (query.Total range))
+query_said Shared line =
     then (compartment_at line 2) (λ a. then (compartment_at line 3) (λ b. then (range_at line 4) (λ range. Ok (query.Shared a b range))))
 
 -- what the user asks for, behind the verb
 abbrev pub asked : Verb → ℕ → List ℕ → Result Request Reason
-asked Write user line =
+asked verb.Write user line =
     then (key_at line 2)
     (λ key. then (key_at line 3) (λ amount. then (ends line 4) (λ _. Ok (request.Write user (record { key = key; amount = amount })))))
-asked Delete user line = then (key_at line 2) (λ key. then (ends line 3) (λ _. Ok (request.Delete user key)))
-asked Copy user line = then (compartment_at line 2) (λ c. then (range_at line 3) (λ range. Ok (request.Copy user c range)))
-asked Rows user line = then (range_at line 2) (λ range. Ok (request.Query user (query.Rows range)))
-asked Total user line = then (range_at line 2) (λ range. Ok (request.Query user (query.Total range)))
-asked Shared user line = then (shared_said line) (λ q. Ok (request.Query user q))
+asked verb.Delete user line = then (key_at line 2) (λ key. then (ends line 3) (λ _. Ok (request.Delete user key)))
+asked verb.Copy user line = then (compartment_at line 2) (λ c. then (range_at line 3) (λ range. Ok (request.Copy user c range)))
+asked (verb.Query kind) user line = then (query_said kind line) (λ q. Ok (request.Query user q))
 
 -- USER VERB ..
 abbrev pub request_said : List ℕ → Result Request Reason
@@ -121,13 +123,17 @@ capacity_said compartment line =
 abbrev pub single_numbers : List ℕ → ℕ
 single_numbers ns = cond (nat_lt 32 (users_in ns)) 2 (user_at (users_in ns))
 
+-- what comes next behind so many numbers, two counts among them
+abbrev pub behind_counts : ℕ → ℕ → ℕ → Stage
+behind_counts count single compartments =
+    cond (nat_lt count single) (stage.User ((count - 2) / 18) compartments)
+    (cond (nat_lt (count - single) compartments) (stage.Capacity (count - single)) stage.Requests)
+
 -- what comes next behind the numbers of a policy
 abbrev pub stage_of : List ℕ → Stage
 stage_of ns =
     cond (length ns == 0) stage.Users
-    (cond (length ns == 1) stage.Compartments
-    (cond (nat_lt (length ns) (single_numbers ns)) (stage.User ((length ns - 2) / 18) (compartments_in ns))
-    (cond (nat_lt (length ns - single_numbers ns) (compartments_in ns)) (stage.Capacity (length ns - single_numbers ns)) stage.Requests)))
+    (cond (length ns == 1) stage.Compartments (behind_counts (length ns) (single_numbers ns) (compartments_in ns)))
 
 -- blank, or a remark
 abbrev pub silent : List ℕ → Bool

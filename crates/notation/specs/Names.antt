@@ -5,7 +5,8 @@ use Rattle.std.specs.Str.{bytes_eq}
 use Rattle.notation.specs.declared.names.Name.{Name}
 use Rattle.notation.specs.declared.names.Name.TheVariants.{Users, Compartments, User, Sees, Writes, Capacity}
 use Rattle.notation.specs.declared.names.Verb.{Verb}
-use Rattle.notation.specs.declared.names.Verb.TheVariants.{Write, Delete, Copy, Rows, Total, Shared}
+use Rattle.notation.specs.declared.names.Verb.TheVariants.{Write, Delete, Copy, Query}
+use Rattle.request.specs.declared.kinds.QueryKind.TheVariants.{Rows, Total, Shared}
 
 abbrev pub spelled : Name → List ℕ
 spelled Users = codes "users"
@@ -19,12 +20,12 @@ abbrev pub verb_spelled : Verb → List ℕ
 verb_spelled Write = codes "write"
 verb_spelled Delete = codes "delete"
 verb_spelled Copy = codes "copy"
-verb_spelled Rows = codes "rows"
-verb_spelled Total = codes "total"
-verb_spelled Shared = codes "shared"
+verb_spelled (Query Rows) = codes "rows"
+verb_spelled (Query Total) = codes "total"
+verb_spelled (Query Shared) = codes "shared"
 
 abbrev pub verbs : List Verb
-verbs = Write ∷ Delete ∷ Copy ∷ Rows ∷ Total ∷ Shared ∷ []
+verbs = Write ∷ Delete ∷ Copy ∷ Query Rows ∷ Query Total ∷ Query Shared ∷ []
 
 -- the verb that the word spells
 abbrev pub verb_of : List ℕ → Option Verb

@@ -51,26 +51,11 @@ fn entry_at(line: Line, stage: Stage) -> Result<Entry, Reason>
     ensures { then result (λ e. Ok (adds e)) ≡ entry_at stage line.entry.bytes.now }
 {
     match stage {
-        Stage::Users => {
-            let count = count_in(line, Name::Users, 32)?;
-            Ok(Entry::Count(count))
-        }
-        Stage::Compartments => {
-            let count = count_in(line, Name::Compartments, 16)?;
-            Ok(Entry::Count(count))
-        }
-        Stage::User { user, compartments } => {
-            let contract = user_in(line, user, compartments)?;
-            Ok(Entry::User(contract))
-        }
-        Stage::Capacity { compartment } => {
-            let capacity = capacity_in(line, compartment)?;
-            Ok(Entry::Count(capacity))
-        }
-        Stage::Requests => {
-            let request = request_in(line)?;
-            Ok(Entry::Request(request))
-        }
+        Stage::Users => count_in(line, Name::Users, 32).map(Entry::Count),
+        Stage::Compartments => count_in(line, Name::Compartments, 16).map(Entry::Count),
+        Stage::User { user, compartments } => user_in(line, user, compartments).map(Entry::User),
+        Stage::Capacity { compartment } => capacity_in(line, compartment).map(Entry::Count),
+        Stage::Requests => request_in(line).map(Entry::Request),
     }
 }
 

@@ -19,7 +19,6 @@ mod writing;
 pub use fault::{Fault, ReadError, Reason};
 pub use laws::reads_back_stands;
 pub use names::Name;
-use reading::read_lines;
 use request::Request;
 use std::alloc::{AllocError, Global};
 use writing::push_trace;
@@ -39,7 +38,7 @@ pub fn read(heap: Global, text: &[u8]) -> Result<Trace, ReadError>
         numbers: Vec::new(heap),
         requests: Vec::new(heap),
     };
-    read_lines(&mut trace, text)?;
+    trace.read_lines(text)?;
     Ok(trace)
 }
 

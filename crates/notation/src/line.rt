@@ -56,8 +56,7 @@ impl<'a> Line<'a> {
     pub(crate) fn is_silent(self) -> bool
         ensures { result ≡ silent self.entry.bytes.now }
     {
-        let word = self.word(0);
-        word.is_empty() || word[0] == b'#'
+        self.word(0).first().is_none_or(|byte| *byte == b'#')
     }
 
     pub(crate) fn is_named(self, place: u8, name: Name) -> bool
@@ -96,7 +95,7 @@ impl<'a> Line<'a> {
         ensures bounds { IfOk result (λ n. (low ≤ n) × (n ≤ high)) }
     {
         let number = self.number(place)?;
-        if low <= number && number <= high {
+        if (low..=high).contains(&number) {
             Ok(number)
         } else {
             Err(Reason::OutOfBounds {

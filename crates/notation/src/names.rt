@@ -6,6 +6,7 @@ ghost use Rattle.std.specs.Prelude.{◌≡◌, Some};
 ghost use Rattle.std.specs.Str.{bytes_eq};
 
 use crate::fault::Reason;
+use request::QueryKind;
 use std::fmt;
 
 // A word that stands at a fixed place of a policy's line.
@@ -49,9 +50,7 @@ pub(crate) enum Verb {
     Write,
     Delete,
     Copy,
-    Rows,
-    Total,
-    Shared,
+    Query(QueryKind),
 }
 
 impl Verb {
@@ -59,9 +58,9 @@ impl Verb {
         Verb::Write,
         Verb::Delete,
         Verb::Copy,
-        Verb::Rows,
-        Verb::Total,
-        Verb::Shared,
+        Verb::Query(QueryKind::Rows),
+        Verb::Query(QueryKind::Total),
+        Verb::Query(QueryKind::Shared),
     ];
 
     fn spelling(self) -> &'static str
@@ -71,9 +70,9 @@ impl Verb {
             Verb::Write => "write",
             Verb::Delete => "delete",
             Verb::Copy => "copy",
-            Verb::Rows => "rows",
-            Verb::Total => "total",
-            Verb::Shared => "shared",
+            Verb::Query(QueryKind::Rows) => "rows",
+            Verb::Query(QueryKind::Total) => "total",
+            Verb::Query(QueryKind::Shared) => "shared",
         }
     }
 

@@ -1,12 +1,12 @@
 // The request that a line says.
 ghost use Rattle.std.specs.Prelude.{◌≡◌, ◌<◌};
-ghost use Rattle.notation.specs.Lines.{asked, key_at, range_at, request_said, shared_said, within};
+ghost use Rattle.notation.specs.Lines.{asked, key_at, query_said, range_at, request_said, within};
 
 use crate::fault::Reason;
 use crate::line::Line;
 use crate::names::Verb;
 use query::Query;
-use request::Request;
+use request::{QueryKind, Request};
 use rows::{KeyRange, Row};
 
 // The number of a user or a compartment, from 0 up to this one.
@@ -72,28 +72,31 @@ fn asked(line: Line, user: usize, verb: Verb) -> Result<Request, Reason>
                 range,
             })
         }
-        Verb::Rows => {
-            let range = range_at(line, 2)?;
-            let query = Query::Rows { range };
-            Ok(Request::Query { user, query })
-        }
-        Verb::Total => {
-            let range = range_at(line, 2)?;
-            let query = Query::Total { range };
-            Ok(Request::Query { user, query })
-        }
-        Verb::Shared => {
-            let query = shared(line)?;
+        Verb::Query(kind) => {
+            let query = query_in(line, kind)?;
             Ok(Request::Query { user, query })
         }
     }
 }
 
-fn shared(line: Line) -> Result<Query, Reason>
-    ensures { result ≡ shared_said line.entry.bytes.now }
+// What a query asks, behind the verb.
+fn query_in(line: Line, kind: QueryKind) -> Result<Query, Reason>
+    ensures { result ≡ query_said kind line.entry.bytes.now }
 {
-    let a = up_to::<15>(line, 2)?;
-    let b = up_to::<15>(line, 3)?;
-    let range = range_at(line, 4)?;
-    Ok(Query::Shared { a, b, range })
+    match kind {
+        QueryKind::Rows => {
+            let range = range_at(line, 2)?;
+            Ok(Query::Rows { range })
+        }
+        QueryKind::Total => {
+            let range = range_at(line, 2)?;
+            Ok(Query::Total { range })
+        }
+        QueryKind::Shared => {
+            let a = up_to::<15>(line, 2)?;
+            let b = up_to::<15>(line, 3)?;
+            let range = range_at(line, 4)?;
+            Ok(Query::Shared { a, b, range })
+        }
+    }
 }

@@ -1,6 +1,6 @@
 // What comes next in a text, by the numbers of the policy so far.
-ghost use Rattle.notation.specs.Lines.{single_numbers, stage_of};
-ghost use Rattle.std.specs.Prelude.{◌≡◌};
+ghost use Rattle.notation.specs.Lines.{behind_counts, single_numbers, stage_of};
+ghost use Rattle.std.specs.Prelude.{◌≡◌, ◌≤◌};
 
 // What comes next.
 #[derive(Clone, Copy)]
@@ -28,21 +28,27 @@ pub(crate) fn single_numbers(numbers: &[u64]) -> usize
 pub(crate) fn stage_of(numbers: &[u64]) -> Stage
     ensures { result ≡ stage_of numbers.now }
 {
-    if numbers.len() == 0 {
-        return Stage::Users;
+    match numbers {
+        [] => Stage::Users,
+        [_] => Stage::Compartments,
+        [_, compartments, ..] => {
+            behind_counts(numbers.len(), single_numbers(numbers), *compartments)
+        }
     }
-    if numbers.len() == 1 {
-        return Stage::Compartments;
-    }
-    let single = single_numbers(numbers);
-    let compartments = numbers[1];
-    if numbers.len() < single {
+}
+
+// What comes next behind so many numbers, two counts among them.
+fn behind_counts(count: usize, single: usize, compartments: u64) -> Stage
+    requires { 2 ≤ count }
+    ensures { result ≡ behind_counts count single compartments }
+{
+    if count < single {
         return Stage::User {
-            user: (numbers.len() - 2) / 18,
+            user: (count - 2) / 18,
             compartments,
         };
     }
-    let compartment = numbers.len() - single;
+    let compartment = count - single;
     if (compartment as u64) < compartments {
         Stage::Capacity { compartment }
     } else {

@@ -112,9 +112,9 @@ fn push_requests(bytes: &mut Vec<u8>, requests: &[Request]) -> Result<(), AllocE
 fn push_policy(bytes: &mut Vec<u8>, numbers: &[u64]) -> Result<(), AllocError>
     ensures { OnOk result (bytes.new.items ≡ bytes.old.items ++ policy_bytes numbers.now) }
 {
-    let single = singles_there(numbers);
-    push_numbers(bytes, 1, &numbers[0..single])?;
-    push_numbers(bytes, 2, &numbers[single..])?;
+    let (single, wide) = numbers.split_at(singles_there(numbers));
+    push_numbers(bytes, 1, single)?;
+    push_numbers(bytes, 2, wide)?;
     Ok(())
 }
 

@@ -15,6 +15,9 @@ pub use looked::{LookedAt, looks_at};
 pub use parts::answer;
 pub use sizes::needed;
 
+// So many numbers stand in front of the rows of an answer.
+const HEADER: usize = 32;
+
 // What may be asked of the compartments in a user's view.
 #[derive(Clone, Copy, PartialEq, Eq, Debug)]
 pub enum Query {

@@ -1,4 +1,4 @@
-use Rattle.std.proofs.Common.{sym, ◌∙◌, arith}
+use Rattle.std.proofs.Common.{sym, arith}
 use Rattle.std.proofs.lemmas.Result.{err_from_is_err_and}
 use Rattle.notation.proofs.Viewing.{viewed_none, viewed_full, viewed_done, viewed_err, viewed_more}
 use Rattle.notation.proofs.users.view_in.Goals as goal

@@ -3,7 +3,6 @@ use super::three::THREE;
 use policy::{Policy, Refusal};
 use request::Request;
 use rows::{KeyRange, Row};
-use store::Response;
 
 // Compartments begin at 0, 8 and 16, with capacities 3, 3 and 2; memory has 598 numbers.
 const DIGITS: KeyRange = KeyRange { from: 0, to: 9 };
@@ -34,11 +33,7 @@ fn refused(memory: &mut [u64], request: Request) -> Option<Refusal> {
         Ok(policy) => policy,
         Err(refusal) => return Some(refusal),
     };
-    match store::serve(&policy, memory, &mut [0; 48], request) {
-        Response::Refused { refusal } => Some(refusal),
-        Response::Done => None,
-        Response::Answered { .. } => None,
-    }
+    store::serve(&policy, memory, &mut [0; 48], request).err()
 }
 
 fn refused_opening(memory: &mut [u64]) -> Option<Refusal> {

@@ -131,7 +131,6 @@ fn decode_query(kind: QueryKind, numbers: &[u64]) -> Result<Query, Refusal>
 #[cfg(test)]
 mod tests {
     use super::*;
-    use std::test::Fail;
 
     fn refused_at(numbers: &[u64]) -> Option<usize> {
         match decode(numbers) {
@@ -162,21 +161,28 @@ mod tests {
     }
 
     #[test]
-    fn reads_a_copy(rt: HostRuntime) -> Result<(), Fail> {
-        let Ok(
-            Request::Copy {
-                user,
-                compartment,
+    fn reads_a_copy(rt: HostRuntime) {
+        let range = KeyRange { from: 5, to: 6 };
+        assert_eq!(rt;
+            decode(&[2, 3, 4, 5, 6]),
+            Ok(Request::Copy {
+                user: 3,
+                compartment: 4,
                 range,
-            },
-        ) = decode(&[2, 3, 4, 5, 6])
-        else {
-            return Err(Fail::new("no copy"));
-        };
-        assert_eq!(rt; user, 3);
-        assert_eq!(rt; compartment, 4);
-        assert_eq!(rt; range.from, 5);
-        assert_eq!(rt; range.to, 6);
-        Ok(())
+            },)
+        );
+    }
+
+    #[test]
+    fn kinds_have_their_numbers(rt: HostRuntime) {
+        for kind in [Kind::Write, Kind::Delete, Kind::Copy, Kind::Query] {
+            assert_eq!(rt; Kind::try_from(u64::from(kind)), Ok(kind));
+        }
+        for kind in [QueryKind::Rows, QueryKind::Total, QueryKind::Shared] {
+            assert_eq!(rt; QueryKind::try_from(u64::from(kind)), Ok(kind));
+        }
+        assert_eq!(rt; u64::from(Kind::Copy), 2);
+        assert_eq!(rt; Kind::try_from(4), Err(UnknownKind(4)));
+        assert_eq!(rt; QueryKind::try_from(3), Err(UnknownKind(3)));
     }
 }

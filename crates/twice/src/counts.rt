@@ -2,12 +2,12 @@
 use crate::event::{EVENTS, Event, NAMES};
 use crate::mix::Call;
 use crate::trace::Trace;
-use policy::Policy;
+use policy::{Policy, Refusal};
 use query::Query;
 use request::Request;
 use rows::KeyRange;
 use std::fmt;
-use store::Response;
+use store::Reply;
 
 #[derive(Drop)]
 pub(crate) struct Counts {
@@ -58,12 +58,12 @@ impl Counts {
         &mut self,
         policy: &Policy,
         call: Call,
-        response: Response,
+        response: Result<Reply, Refusal>,
         row: &[u64],
     ) {
         self.add(Event::Request);
         self.add(Event::of(policy, call.request, response, row));
-        if let (Request::Write { row, .. }, Response::Done) = (call.request, response) {
+        if let (Request::Write { row, .. }, Ok(Reply::Done)) = (call.request, response) {
             self.add_if(row.key == 0, Event::LowestKey);
             self.add_if(row.key == u32::MAX, Event::HighestKey);
         }

@@ -1,9 +1,10 @@
 // The queries that a user was answered since what they see was changed.
 use crate::same::same_query;
+use policy::Refusal;
 use query::Query;
 use request::Request;
 use std::alloc::{AllocError, Global};
-use store::Response;
+use store::Reply;
 
 #[derive(Drop)]
 pub(crate) struct Recent {
@@ -18,8 +19,8 @@ impl Recent {
     }
 
     // What the user sees was changed, if this was done.
-    pub(crate) fn changed(&mut self, response: Response) {
-        if matches!(response, Response::Done) {
+    pub(crate) fn changed(&mut self, response: Result<Reply, Refusal>) {
+        if matches!(response, Ok(Reply::Done)) {
             self.forget();
         }
     }
@@ -32,12 +33,12 @@ impl Recent {
     pub(crate) fn fell_out(
         &mut self,
         request: Request,
-        response: Response,
+        response: Result<Reply, Refusal>,
     ) -> Result<bool, AllocError> {
         let Request::Query { query, .. } = request else {
             return Ok(false);
         };
-        let Response::Answered { outcome } = response else {
+        let Ok(Reply::Answered { outcome }) = response else {
             return Ok(false);
         };
         if self.holds(query) {

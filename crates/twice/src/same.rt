@@ -1,14 +1,15 @@
 // Whether two responses, or two queries, are the same.
+use policy::Refusal;
 use query::{Answered, Outcome, Query};
 use rows::KeyRange;
-use store::Response;
+use store::Reply;
 
 // The same kind, and all its numbers.
-pub(crate) fn same_response(one: Response, other: Response) -> bool {
+pub(crate) fn same_response(one: Result<Reply, Refusal>, other: Result<Reply, Refusal>) -> bool {
     match (one, other) {
-        (Response::Done, Response::Done) => true,
-        (Response::Refused { refusal: a }, Response::Refused { refusal: b }) => a == b,
-        (Response::Answered { outcome: a }, Response::Answered { outcome: b }) => {
+        (Ok(Reply::Done), Ok(Reply::Done)) => true,
+        (Err(a), Err(b)) => a == b,
+        (Ok(Reply::Answered { outcome: a }), Ok(Reply::Answered { outcome: b })) => {
             same_outcome(a, b)
         }
         _ => false,

@@ -1,9 +1,9 @@
 // A store on memory of its own, with the answer rows that are lent to it.
 use crate::mix::{Call, LONGEST};
 use anyhow::anyhow;
-use policy::Policy;
+use policy::{Policy, Refusal};
 use std::alloc::{AllocError, Global};
-use store::Response;
+use store::Reply;
 
 // As many numbers as 16 compartments of 64 rows and the caches of 32 users take.
 const MEMORY: usize = 8224;
@@ -35,7 +35,7 @@ impl Side {
     }
 
     // A call of the viewer.
-    pub(crate) fn serve_own(&mut self, policy: &Policy, call: Call) -> Response {
+    pub(crate) fn serve_own(&mut self, policy: &Policy, call: Call) -> Result<Reply, Refusal> {
         let row = self.own.as_mut_slice();
         let length = call.length.min(row.len());
         store::serve(
@@ -47,7 +47,7 @@ impl Side {
     }
 
     // A call of somebody else.
-    pub(crate) fn serve_other(&mut self, policy: &Policy, call: Call) -> Response {
+    pub(crate) fn serve_other(&mut self, policy: &Policy, call: Call) -> Result<Reply, Refusal> {
         let row = self.others.as_mut_slice();
         let length = call.length.min(row.len());
         store::serve(

@@ -70,7 +70,7 @@ impl Stage {
     fn play_other(&mut self, policy: &Policy, viewer: usize, call: Call, counts: &mut Counts) {
         let response = self.whole.serve_other(policy, call);
         if relevant(policy, viewer, call.request) {
-            self.purged.serve_other(policy, call);
+            let _ = self.purged.serve_other(policy, call);
             self.recent.changed(response);
         } else {
             counts.add(Event::Purged);

@@ -4,15 +4,20 @@ use crate::relevant::asker;
 use policy::{Policy, Refusal};
 use query::{Answered, Outcome};
 use request::Request;
-use store::Response;
+use store::Reply;
 
 impl Event {
     // What came of a request; of an answer of rows the lent row says whether there are any.
-    pub(crate) fn of(policy: &Policy, request: Request, response: Response, row: &[u64]) -> Event {
+    pub(crate) fn of(
+        policy: &Policy,
+        request: Request,
+        response: Result<Reply, Refusal>,
+        row: &[u64],
+    ) -> Event {
         match response {
-            Response::Done => Event::of_done(policy, request),
-            Response::Refused { refusal } => Event::of_refusal(policy, request, refusal),
-            Response::Answered { outcome } => Event::of_answer(outcome, row),
+            Ok(Reply::Done) => Event::of_done(policy, request),
+            Err(refusal) => Event::of_refusal(policy, request, refusal),
+            Ok(Reply::Answered { outcome }) => Event::of_answer(outcome, row),
         }
     }
 

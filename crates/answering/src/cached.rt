@@ -1,23 +1,13 @@
 // A user's cache in memory.
-ghost use Rattle.std.specs.Prelude.{◌≡◌, ◌+◌, ◌≤◌, length, IfSome};
-ghost use Rattle.policy.specs.Access.{cache_at, memory_length};
+ghost use Rattle.std.specs.Prelude.{◌≡◌, ◌+◌, ◌≤◌, length};
 ghost use Rattle.cache.specs.Places.{look_up, keep_in};
 ghost use Rattle.answering.specs.Asked.{cache_part, with_cache, kept_of};
 
 use cache::Kept;
-use policy::Policy;
 use query::{Answered, Query};
 
 // Eight places of 24 numbers.
 const SIZE: usize = 192;
-
-// Where a user's cache begins, if they are there: it lies within memory.
-pub(crate) fn cache_in(policy: &Policy, user: usize) -> Option<usize>
-    ensures value { result ≡ cache_at policy.now user }
-    ensures inside { IfSome result (λ at. at + 192 ≤ memory_length policy.now) }
-{
-    policy.cache(user)
-}
 
 // What the cache at a place has for a query with these versions.
 pub(crate) fn look_up(memory: &[u64], at: usize, query: Query, versions: &[u64]) -> Option<Kept>

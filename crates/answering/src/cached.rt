@@ -1,10 +1,10 @@
 // A user's cache in memory.
 ghost use Rattle.std.specs.Prelude.{◌≡◌, ◌+◌, ◌≤◌, length};
 ghost use Rattle.cache.specs.Places.{look_up, keep_in};
-ghost use Rattle.answering.specs.Asked.{cache_part, with_cache, kept_of};
+ghost use Rattle.answering.specs.Asked.{cache_part, with_cache};
 
 use cache::Kept;
-use query::{Answered, Query};
+use query::Query;
 
 // Eight places of 24 numbers.
 const SIZE: usize = 192;
@@ -23,19 +23,4 @@ pub(crate) fn keep(memory: &mut [u64], at: usize, query: Query, versions: &[u64]
     ensures { memory.new ≡ with_cache at (keep_in query versions.now kept (cache_part at memory.old)) memory.old }
 {
     cache::keep(&mut memory[at..at + SIZE], query, versions, kept);
-}
-
-// What is kept of an answer.
-pub(crate) fn kept_of(answered: Answered) -> Kept
-    ensures { result ≡ kept_of answered }
-{
-    match answered {
-        Answered::Rows { .. } => Kept::Rows,
-        Answered::Total { rows, amount } => Kept::Total {
-            rows: rows as u64,
-            amount,
-        },
-        Answered::Shared { .. } => Kept::Shared,
-        Answered::NotSeen => Kept::NotSeen,
-    }
 }

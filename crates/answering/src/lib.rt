@@ -63,13 +63,8 @@ fn found_or_not(
         return held.recall(asked, kept, row);
     }
     let told = held.work_out(asked, row)?;
-    cached::keep(
-        memory,
-        at,
-        asked.query,
-        versions,
-        cached::kept_of(told.answered),
-    );
+    let kept = told.answered.into();
+    cached::keep(memory, at, asked.query, versions, kept);
     Ok(told)
 }
 
@@ -136,15 +131,8 @@ mod tests {
             return Ok(());
         };
         assert_eq!(rt; told.examined, 0);
-        assert!(rt;
-            matches!(
-                told.answered,
-                Answered::Total {
-                    rows: 2,
-                    amount: 80
-                }
-            )
-        );
+        let (rows, amount) = (2, 80);
+        assert_eq!(rt; told.answered, Answered::Total { rows, amount });
         memory[64] = 1;
         let Ok(told) = ask(&policy, &mut memory, &mut row, 0, TOTAL) else {
             assert!(rt; false);
@@ -177,11 +165,11 @@ mod tests {
         let mut memory = [0; 318];
         damage(&mut memory);
         let short = told(&mut [0; 317], &mut [], 1, TOTAL);
-        assert!(rt; matches!(short, Err(Refusal::OutOfBounds { place: 317 })));
+        assert_eq!(rt; short, Err(Refusal::OutOfBounds { place: 317 }));
         let nobody = told(&mut memory, &mut [], 1, TOTAL);
-        assert!(rt; matches!(nobody, Err(Refusal::NoUser { user: 1 })));
+        assert_eq!(rt; nobody, Err(Refusal::NoUser { user: 1 }));
         let little = told(&mut memory, &mut [0; 111], 0, TOTAL);
-        assert!(rt; matches!(little, Err(Refusal::ShortRow { length: 111 })));
+        assert_eq!(rt; little, Err(Refusal::ShortRow { length: 111 }));
     }
 
     #[test]
@@ -189,7 +177,7 @@ mod tests {
         let mut memory = [0; 318];
         damage(&mut memory);
         let damaged = told(&mut memory, &mut [0; 112], 0, TOTAL);
-        assert!(rt; matches!(damaged, Err(Refusal::OutOfBounds { place: 1 })));
+        assert_eq!(rt; damaged, Err(Refusal::OutOfBounds { place: 1 }));
         assert_eq!(rt; memory[126], 0);
     }
 
@@ -201,7 +189,7 @@ mod tests {
             assert!(rt; false);
             return Ok(());
         };
-        assert!(rt; matches!(outcome.answered, Answered::NotSeen));
+        assert_eq!(rt; outcome.answered, Answered::NotSeen);
         assert_eq!(rt; memory[126], 3);
         Ok(())
     }

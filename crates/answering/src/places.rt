@@ -3,10 +3,7 @@ ghost use Rattle.std.specs.Prelude.{◌≡◌};
 ghost use Rattle.answering.specs.Places.{version_at, part_at, fault_at};
 
 use crate::held::Held;
-use policy::Place;
-
-// Every version is below it.
-const LIMIT: u64 = 1 << 40;
+use policy::{Place, VERSION_LIMIT};
 
 impl<'a> Held<'a> {
     // How often a compartment was changed.
@@ -37,7 +34,7 @@ impl<'a> Held<'a> {
         ensures { result ≡ fault_at self.now.policy.now self.now.memory.now compartment }
     {
         let Place { start, capacity } = self.policy.place(compartment)?;
-        if self.memory[start] >= LIMIT {
+        if self.memory[start] >= VERSION_LIMIT {
             return Some(start);
         }
         if self.memory[start + 1] > capacity as u64 {

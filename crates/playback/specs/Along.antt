@@ -7,11 +7,10 @@ use Rattle.policy.specs.declared.refusal.Refusal.TheVariants as refusal
 use Rattle.store.specs.Calls.{short, opened}
 use Rattle.store.specs.Served.{served_told, served_memory, served_row, heard}
 use Rattle.store.specs.declared.reply.Reply.{Reply}
-use Rattle.playback.specs.Items.{from, items_of, ended_of}
-use Rattle.playback.specs.Printed.{lent, hears, concerns}
-use Rattle.playback.specs.declared.audience.Audience.{Audience}
-use Rattle.playback.specs.declared.items.Item.{Item}
-use Rattle.playback.specs.declared.items.Item.TheVariants.{Request, NoRequest}
+use Rattle.played.specs.Items.{from, items_of, ended_of}
+use Rattle.playback.specs.Printed.{Audience, lent, hears, concerns}
+use Rattle.played.specs.declared.items.Item.{Item}
+use Rattle.played.specs.declared.items.Item.TheVariants.{Request, NoRequest}
 use Rattle.words.specs.Words.{line}
 
 -- what the call for an item returns

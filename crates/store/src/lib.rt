@@ -37,10 +37,10 @@ pub fn write(policy: &Policy, memory: &mut [u64], user: usize, row: Row) -> Resu
     ensures told { result ≡ wrote_told policy.now user row memory.old }
     ensures after { memory.new ≡ wrote policy.now user row memory.old }
 {
-    let Written { compartment, place } = written_in(policy, memory, user)?;
-    let start = place.start;
-    let end = end_of(place);
-    compartment::write(&mut memory[start..end], start, compartment, row)
+    let written = written_in(policy, memory, user)?;
+    let start = written.place.start;
+    let end = end_of(written.place);
+    compartment::write(&mut memory[start..end], written, row)
 }
 
 // The row with the key goes from there.
@@ -48,10 +48,10 @@ pub fn delete(policy: &Policy, memory: &mut [u64], user: usize, key: u32) -> Res
     ensures told { result ≡ deleted_told policy.now user key memory.old }
     ensures after { memory.new ≡ deleted policy.now user key memory.old }
 {
-    let Written { compartment, place } = written_in(policy, memory, user)?;
-    let start = place.start;
-    let end = end_of(place);
-    compartment::delete(&mut memory[start..end], start, compartment, key)
+    let written = written_in(policy, memory, user)?;
+    let start = written.place.start;
+    let end = end_of(written.place);
+    compartment::delete(&mut memory[start..end], written, key)
 }
 
 // Memory must be as long as the policy asks for.

@@ -30,5 +30,5 @@ pub(crate) fn raise(memory: &mut [u64], written: Written, rows: usize) -> Result
 {
     let start = written.place.start;
     let end = end_of(written.place);
-    compartment::raise(&mut memory[start..end], start, written.compartment, rows)
+    compartment::raise(&mut memory[start..end], written, rows)
 }

@@ -11,6 +11,7 @@ impl<'a> Held<'a> {
         requires { length view.now ≤ length versions.old }
         ensures { result.now ≡ versions_in self.now.policy.now self.now.memory.now view.now }
     {
+        // By index, since a proof knows nothing of what is written through a `zip`.
         for (i, compartment) in view.iter().enumerate() {
             versions[i] = self.version_at(*compartment);
         }

@@ -14,9 +14,6 @@ some_some e = cc
 pub first_more : (f : ℕ → Bool) (i n m : ℕ) → n ≡ suc m → first f i n ≡ cond (f i) (Some i) (first f (i + 1) m)
 first_more f i n m e = rw e refl
 
-pub first_here : (f : ℕ → Bool) (i n : ℕ) → 0 < n → f i ≡ true → first f i n ≡ Some i
-first_here f i n h t = first_more f i n (n - 1) (omega arith) ∙ cond-true (f i) _ _ t
-
 pub first_on : (f : ℕ → Bool) (i n m : ℕ) → n ≡ suc m → f i ≡ false → first f i n ≡ first f (i + 1) m
 first_on f i n m e t = first_more f i n m e ∙ cond-false (f i) _ _ t
 
@@ -43,11 +40,6 @@ first_none f i (suc n) e k low high =
         | inr s ↦ first_none f (i + 1) n (sym (cond-false (f i) (Some i) (first f (i + 1) n) t) ∙ e) k (omega arith) (omega arith)
       ]
     ]
-
-pub first_same : (f g : ℕ → Bool) (i n : ℕ) → ((k : ℕ) → k < i + n → f k ≡ g k) → first f i n ≡ first g i n
-first_same f g i zero same = refl
-first_same f g i (suc n) same =
-    let here = same i (omega arith) in let rest = first_same f g (i + 1) n (λ k h. same k (omega arith)) in rw (here, rest) refl
 
 -- what no fault says: everything that `Fit` asks for
 module _ (most : ℕ) (xs : List ℕ) (low : most ≤ 4096) (none : first (at_fault most xs) 0 (places xs) ≡ None) where

@@ -2,10 +2,10 @@
 use Rattle.std.proofs.Common.{◌≡◌, ℕ, zero, suc, ◌+◌, ◌*◌, ◌<◌, ◌≤◌, Bool, true, false, not, ◌&&◌, ◌||◌, eqb, ltb, leb, List, [], ◌∷◌, length, get_or, take, drop, sym, ◌∙◌, ap, refl, suc-le-suc, zero-le, le_of_suc-le-suc, not-suc-le-zero, arith}
 use Rattle.std.proofs.lemmas.List.{at_drop_more, at_drop_all, take_all}
 use Rattle.std.proofs.lemmas.Bool.{and_parts, and_from, leb-true}
-use Rattle.policy.specs.Layout.{size, starts_from, end_from}
+use Rattle.policy.specs.Layout.{size, end_from}
 use Rattle.policy.specs.Policies.{all_within, rules_from, lets}
 use Rattle.std.specs.List.{list_all}
-use Rattle.policy.specs.Rules.{Rules, has, sees, all_see, flows}
+use Rattle.policy.specs.Rules.{Rules, has, all_see, flows}
 use Rattle.policy.specs.declared.contract.Contract.{Contract}
 use Rattle.std.proofs.lemmas.List.Folds.{list_all_more}
 use Rattle.std.proofs.Math.Bool.{and_comm}
@@ -24,9 +24,6 @@ distinct_more xs n i h = at_drop_more (λ ys. distinct_below n ys) xs i 0 h
 pub distinct_all : (xs : List ℕ) (n i : ℕ) → length xs ≤ i → distinct_below n (drop i xs) ≡ true
 distinct_all xs n i h = at_drop_all (λ ys. distinct_below n ys) xs i h
 
-pub all_see_more : (p : Rules) (a b n m : ℕ) → n ≡ suc m → all_see p a b n ≡ ((not (sees p m b) || sees p m a) && all_see p a b m)
-all_see_more p a b n m e = rw e refl
-
 pub all_at : {X : Type 0} (test : X → Bool) (d : X) (xs : List X) (i : ℕ) → i < length xs → list_all test xs ≡ true → test (get_or xs i d) ≡ true
 all_at test d [] i h e = absurd (not-suc-le-zero h)
 all_at test d (x ∷ xs) zero h e = (and_parts (test x) (list_all test xs) e).0
@@ -38,13 +35,6 @@ all_from test d (x ∷ xs) each = and_from (test x) (list_all test xs) (each 0 (
 
 pub within_at : (most : ℕ) (xs : List ℕ) (i : ℕ) → i < length xs → all_within most xs ≡ true → get_or xs i 0 ≤ most
 within_at most xs i h e = leb-true (get_or xs i 0) most (all_at (λ c. leb c most) 0 xs i h e)
-
-pub starts_more : (at : ℕ) (xs : List ℕ) (i : ℕ) → i < length xs →
-    starts_from at (drop i xs) ≡ at ∷ starts_from (at + size (get_or xs i 0)) (drop (i + 1) xs)
-starts_more at xs i h = at_drop_more (λ ys. starts_from at ys) xs i 0 h
-
-pub end_more : (at : ℕ) (xs : List ℕ) (i : ℕ) → i < length xs → end_from at (drop i xs) ≡ end_from (at + size (get_or xs i 0)) (drop (i + 1) xs)
-end_more at xs i h = at_drop_more (λ ys. end_from at ys) xs i 0 h
 
 end_bound : (at : ℕ) (xs : List ℕ) → all_within 4096 xs ≡ true → end_from at xs ≤ at + 8194 * length xs
 end_bound at [] e = omega arith

@@ -94,11 +94,7 @@ impl Policy {
     pub fn cache(&self, user: usize) -> Option<usize>
         ensures { result ≡ cache_at self.now user }
     {
-        if self.has_user(user) {
-            Some(self.caches + 192 * user)
-        } else {
-            None
-        }
+        self.has_user(user).then(|| self.caches + 192 * user)
     }
 
     // How long memory must be.

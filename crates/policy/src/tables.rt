@@ -17,6 +17,7 @@ pub(crate) fn place(places: &mut [Place], capacities: &[u64]) -> usize
     ensures end { result ≡ end_from 0 capacities.now }
 {
     let mut end = 0;
+    // By index, since a proof knows no elements after `zip` with `iter_mut`.
     for (i, capacity) in capacities.iter().enumerate() {
         let capacity = *capacity as usize;
         places[i] = Place {

@@ -1,16 +1,16 @@
 -- The capacity of a compartment, read off where it lies.
-use Rattle.std.proofs.Common.{◌≡◌, ℕ, ◌≤◌, length, Some, None, inl, inr, arith, length-take}
+use Rattle.std.proofs.Common.{◌≡◌, ℕ, ◌≤◌, length, Some, None, inl, inr, arith}
 use Rattle.std.proofs.lemmas.List.{get_or_past}
 use Rattle.std.proofs.lemmas.Bool.{cases_lt, lt-ltb, le-ltb}
 use Rattle.policy.specs.Access.{rules_of, capacities_of, place_at}
 use Rattle.policy.specs.declared.Policy.{Policy}
 use Rattle.policy.specs.declared.place.Place.{Place}
-use Rattle.policy.proofs.Proved.{policies_valid}
+use Rattle.policy.proofs.Proved.{policies_valid, capacities_long}
 
 module _ (p : Policy) (c : ℕ) where
   none_there : p.compartments ≤ c → (rules_of p).capacity c ≡ 0
   none_there h =
-      let l : length (capacities_of p) ≤ c = simp length-take (omega arith) in
+      let l : length (capacities_of p) ≤ c = omega (arith, capacities_long p) in
       get_or_past (capacities_of p) c 0 l
 
   pub capacity_small : (rules_of p).capacity c ≤ 4096

@@ -1,6 +1,6 @@
 -- What a policy's fields say, and how its tables follow from them.
-use Rattle.std.specs.Prelude.{ℕ, ◌/◌, ◌%◌, Bool, not, ◌||◌, List, map, get_or, nat_le, slice_index, slice_index_or}
-use Rattle.policy.specs.Rules.{Rules, has}
+use Rattle.std.specs.Prelude.{ℕ, ◌/◌, ◌%◌, Bool, not, ◌||◌, List, [], map, length, get_or, nat_le, slice_index, slice_index_or}
+use Rattle.policy.specs.Rules.{Rules, has, flows}
 use Rattle.policy.specs.Views.{view_of, valid, nobody}
 use Rattle.policy.specs.declared.contract.Contract.{Contract}
 use Rattle.policy.specs.declared.place.Place.{Place}
@@ -18,9 +18,9 @@ rules_from users contracts capacities = record {
 abbrev pub lets : ℕ → ℕ → Contract → Bool
 lets a b c = not (has (view_of c) b) || has (view_of c) a
 
--- row a, column b: may rows flow from a to b, as everybody who sees b sees a?
+-- row a, column b: may rows flow from a to b?
 abbrev pub flow_table : List Contract → List Bool
-flow_table contracts = map (λ i. list_all (lets (i / 16) (i % 16)) contracts) (range_with_len 0 256)
+flow_table contracts = map (λ i. flows (rules_from (length contracts) contracts []) (i / 16) (i % 16)) (range_with_len 0 256)
 
 -- where compartments begin, and how many rows they may hold
 abbrev pub starts_in : List Place → List ℕ

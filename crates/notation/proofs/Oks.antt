@@ -1,23 +1,23 @@
 -- What a line that is read tells of its numbers.
-use Rattle.std.proofs.Common.{◌≡◌, ℕ, zero, suc, ◌+◌, ◌-◌, ◌^◌, ◌<◌, ◌≤◌, Bool, true, false, cond, ◌&&◌, leb, List, length, take, replicate, Ok, Err, Result, sym, refl, ap, ◌∙◌, subst, inl, inr, arith}
-use Rattle.std.proofs.lemmas.List.{take_at}
+use Rattle.std.proofs.Common.{◌≡◌, ℕ, zero, suc, ◌+◌, ◌^◌, ◌<◌, ◌≤◌, Bool, true, false, cond, ◌&&◌, leb, List, length, Ok, Err, Result, sym, refl, ap, subst, inl, inr, arith}
 use Rattle.std.proofs.lemmas.Bool.{and_parts, leb-true, cases_Bool}
 use Rattle.std.specs.Str.{bytes_eq}
+use Rattle.policy.specs.Views.{stands}
 use Rattle.rows.specs.declared.KeyRange.{KeyRange}
 use Rattle.query.specs.declared.Query.{Query}
+use Rattle.request.specs.declared.kinds.QueryKind.{QueryKind}
+use Rattle.request.specs.declared.kinds.QueryKind.TheVariants.{Rows, Total, Shared}
 use Rattle.request.specs.declared.Request.{Request}
 use Rattle.request.specs.declared.Request.TheVariants as request
 use Rattle.request.specs.Format.{WithinBounds}
 use Rattle.notation.specs.Names.{spelled}
 use Rattle.notation.specs.Words.{word_at}
-use Rattle.notation.specs.Lines.{then, number_at, within, key_at, compartment_at, range_at, shared_said, asked, request_said, verb_at, ends, named, count_said, capacity_said, next_at, padded, view_from, view_read, view_said, user_said, stands}
-use Rattle.notation.specs.declared.entries.View.{View}
-use Rattle.notation.specs.declared.entries.Contract.{Contract}
+use Rattle.notation.specs.Lines.{then, number_at, within, key_at, compartment_at, range_at, query_said, asked, request_said, verb_at, ends, named, count_said, capacity_said, next_at, Seen, view_from, view_said, user_said}
 use Rattle.notation.specs.declared.fault.Reason.TheVariants.{OutOfBounds, BadView}
 use Rattle.notation.specs.declared.names.Name.{Name}
 use Rattle.notation.specs.declared.names.Name.TheVariants as name
 use Rattle.notation.specs.declared.names.Verb.{Verb}
-use Rattle.notation.specs.declared.names.Verb.TheVariants.{Write, Delete, Copy, Rows, Total, Shared}
+use Rattle.notation.specs.declared.names.Verb.TheVariants as verb
 
 pub ok_same : {A E : Type 0} (a b : A) → ◌≡◌ {A = Result A E} (Ok a) (Ok b) → a ≡ b
 ok_same a b e = cc
@@ -52,43 +52,46 @@ range_ok line place r e =
     (omega (arith, ap (λ (k : KeyRange). k.from) same), omega (arith, ap (λ (k : KeyRange). k.to) same))
 
 module _ (line : List ℕ) (user : ℕ) (few : user < 32) where
+  query_ok : (kind : QueryKind) (q : Query) → query_said kind line ≡ Ok q → WithinBounds (request.Query user q)
+  query_ok Rows q e =
+      let range = then_ok (range_at line 2) _ q e in
+      let r = range_ok line 2 range.0 range.1 in
+      subst (λ (x : Query). WithinBounds (request.Query user x)) (ok_same _ q range.2) (omega arith, (few, (omega arith, (r.0, (r.1, tt)))))
+  query_ok Total q e =
+      let range = then_ok (range_at line 2) _ q e in
+      let r = range_ok line 2 range.0 range.1 in
+      subst (λ (x : Query). WithinBounds (request.Query user x)) (ok_same _ q range.2) (omega arith, (few, (omega arith, (r.0, (r.1, tt)))))
+  query_ok Shared q e =
+      let a = then_ok (compartment_at line 2) _ q e in
+      let b = then_ok (compartment_at line 3) _ q a.2 in
+      let range = then_ok (range_at line 4) _ q b.2 in
+      let ca = (within_ok 0 15 line 2 a.0 a.1).1 in
+      let cb = (within_ok 0 15 line 3 b.0 b.1).1 in
+      let r = range_ok line 4 range.0 range.1 in
+      subst (λ (x : Query). WithinBounds (request.Query user x)) (ok_same _ q range.2) (omega arith, (few, (omega arith, (omega arith, (omega arith, (r.0, (r.1, tt)))))))
+
   asked_ok : (verb : Verb) (q : Request) → asked verb user line ≡ Ok q → WithinBounds q
-  asked_ok Write q e =
+  asked_ok verb.Write q e =
       let key = then_ok (key_at line 2) _ q e in
       let amount = then_ok (key_at line 3) _ q key.2 in
       let end = then_ok (ends line 4) _ q amount.2 in
       let k = (within_ok 0 4294967295 line 2 key.0 key.1).1 in
       let a = (within_ok 0 4294967295 line 3 amount.0 amount.1).1 in
       subst WithinBounds (ok_same _ q end.2) (omega arith, (few, (omega arith, (omega arith, tt))))
-  asked_ok Delete q e =
+  asked_ok verb.Delete q e =
       let key = then_ok (key_at line 2) _ q e in
       let end = then_ok (ends line 3) _ q key.2 in
       let k = (within_ok 0 4294967295 line 2 key.0 key.1).1 in
       subst WithinBounds (ok_same _ q end.2) (omega arith, (few, (omega arith, tt)))
-  asked_ok Copy q e =
+  asked_ok verb.Copy q e =
       let from = then_ok (compartment_at line 2) _ q e in
       let range = then_ok (range_at line 3) _ q from.2 in
       let c = (within_ok 0 15 line 2 from.0 from.1).1 in
       let r = range_ok line 3 range.0 range.1 in
       subst WithinBounds (ok_same _ q range.2) (omega arith, (few, (omega arith, (r.0, (r.1, tt)))))
-  asked_ok Rows q e =
-      let range = then_ok (range_at line 2) _ q e in
-      let r = range_ok line 2 range.0 range.1 in
-      subst WithinBounds (ok_same _ q range.2) (omega arith, (few, (omega arith, (r.0, (r.1, tt)))))
-  asked_ok Total q e =
-      let range = then_ok (range_at line 2) _ q e in
-      let r = range_ok line 2 range.0 range.1 in
-      subst WithinBounds (ok_same _ q range.2) (omega arith, (few, (omega arith, (r.0, (r.1, tt)))))
-  asked_ok Shared q e =
-      let x = then_ok (shared_said line) _ q e in
-      let a = then_ok (compartment_at line 2) _ x.0 x.1 in
-      let b = then_ok (compartment_at line 3) _ x.0 a.2 in
-      let range = then_ok (range_at line 4) _ x.0 b.2 in
-      let ca = (within_ok 0 15 line 2 a.0 a.1).1 in
-      let cb = (within_ok 0 15 line 3 b.0 b.1).1 in
-      let r = range_ok line 4 range.0 range.1 in
-      let same = ap (λ (y : Query). request.Query user y) (ok_same _ x.0 range.2) ∙ ok_same _ q x.2 in
-      subst WithinBounds same (omega arith, (few, (omega arith, (omega arith, (omega arith, (r.0, (r.1, tt)))))))
+  asked_ok (verb.Query kind) q e =
+      let x = then_ok (query_said kind line) _ q e in
+      subst WithinBounds (ok_same _ q x.2) (query_ok kind x.0 x.1)
 
 pub request_ok : (line : List ℕ) (q : Request) → request_said line ≡ Ok q → WithinBounds q
 request_ok line q e =
@@ -129,37 +132,21 @@ view_few (suc n) line place cs e =
     ]
 
 -- what is known of a user's contract that is read
-pub record Stands (compartments : ℕ) (c : Contract) : Type 0 where
-  pub view : List ℕ
-  pub few : length view ≤ 16
-  pub is : c.view ≡ padded view
-  pub stands : stands compartments view c.writes ≡ true
+pub record Stands (compartments : ℕ) (c : Seen) : Type 0 where
+  pub few : length c.view ≤ 16
+  pub stands : stands compartments c.view c.writes ≡ true
 
-view_ok : (compartments : ℕ) (line : List ℕ) (c : Contract) → view_said compartments line ≡ Ok c → Stands compartments c
+view_ok : (compartments : ℕ) (line : List ℕ) (c : Seen) → view_said compartments line ≡ Ok c → Stands compartments c
 view_ok compartments line c e =
-    let read = then_ok (view_read line) _ c e in
-    let listed = then_ok (view_from 16 line 3) _ read.0 read.1 in
-    let v : View = read.0 in
-    let cs : List ℕ = listed.0 in
-    let is : padded cs ≡ v = ok_same _ v listed.2 in
-    let sees = then_ok (named name.Writes line (3 + v.seen)) _ c read.2 in
-    let writes = then_ok (number_at line (4 + v.seen)) _ c sees.2 in
-    let end = then_ok (ends line (5 + v.seen)) _ c writes.2 in
-    let w : ℕ = writes.0 in
-    let good = cond_ok (stands compartments (take v.seen v.places) w) _ BadView c end.2 in
-    let same = good.1 in
-    let whole : take v.seen v.places ≡ cs =
-    ap (λ (x : View). take x.seen x.places) (sym is) ∙ take_at cs (replicate (16 - length cs) 0) (length cs) refl in
-    record {
-      view = cs;
-      few = view_few 16 line 3 cs listed.1;
-      is = ap (λ (x : Contract). x.view) (sym same) ∙ sym is;
-      stands =
-          ap (λ (n : ℕ). stands compartments cs n) (ap (λ (x : Contract). x.writes) (sym same))
-          ∙ ap (λ (xs : List ℕ). stands compartments xs w) (sym whole) ∙ good.0;
-    }
+    let read = then_ok (view_from 16 line 3) _ c e in
+    let view : List ℕ = read.0 in
+    let sees = then_ok (named name.Writes line (3 + length view)) _ c read.2 in
+    let writes = then_ok (number_at line (4 + length view)) _ c sees.2 in
+    let end = then_ok (ends line (5 + length view)) _ c writes.2 in
+    let good = cond_ok (stands compartments view writes.0) _ BadView c end.2 in
+    subst (λ (x : Seen). Stands compartments x) good.1 (record { few = view_few 16 line 3 view read.1; stands = good.0 })
 
-pub user_ok : (user compartments : ℕ) (line : List ℕ) (c : Contract) → user_said user compartments line ≡ Ok c → Stands compartments c
+pub user_ok : (user compartments : ℕ) (line : List ℕ) (c : Seen) → user_said user compartments line ≡ Ok c → Stands compartments c
 user_ok user compartments line c e =
     let first = then_ok (named name.User line 0) _ c e in
     let second = then_ok (next_at user line 1) _ c first.2 in

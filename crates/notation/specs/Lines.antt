@@ -1,14 +1,15 @@
 -- What a line says: a count, a user's contract, a capacity or a request.
-use Rattle.std.specs.Prelude.{ℕ, zero, suc, ◌+◌, ◌-◌, ◌/◌, Bool, cond, ◌&&◌, ◌||◌, List, [], ◌∷◌, ◌++◌, length, take, replicate, Ok, Err, Result, ◌==◌, nat_le, nat_lt, slice_index}
+use Rattle.std.specs.Prelude.{ℕ, zero, suc, ◌+◌, ◌-◌, ◌/◌, Bool, cond, ◌&&◌, ◌||◌, List, [], ◌∷◌, length, Ok, Err, Result, ◌==◌, nat_le, nat_lt, slice_index}
 use Rattle.std.specs.Option.{ok_or}
 use Rattle.std.specs.Str.{bytes_eq}
 use Rattle.rows.specs.declared.KeyRange.{KeyRange}
 use Rattle.policy.specs.Numbers.{users_in, compartments_in, user_at}
-use Rattle.policy.specs.Rules.{has}
-use Rattle.policy.specs.Views.{distinct_below}
+use Rattle.policy.specs.Views.{stands}
 use Rattle.query.specs.declared.Query.{Query}
 use Rattle.query.specs.declared.Query.TheVariants as query
 use Rattle.request.specs.declared.Request.{Request}
+use Rattle.request.specs.declared.kinds.QueryKind.{QueryKind}
+use Rattle.request.specs.declared.kinds.QueryKind.TheVariants.{Rows, Total, Shared}
 use Rattle.request.specs.declared.Request.TheVariants as request
 use Rattle.notation.specs.Names.{spelled, verb_of}
 use Rattle.notation.specs.Words.{word_at, number_of}
@@ -17,13 +18,9 @@ use Rattle.notation.specs.declared.fault.Reason.TheVariants.{Expected, NotNext, 
 use Rattle.notation.specs.declared.names.Name.{Name}
 use Rattle.notation.specs.declared.names.Name.TheVariants as name
 use Rattle.notation.specs.declared.names.Verb.{Verb}
-use Rattle.notation.specs.declared.names.Verb.TheVariants.{Write, Delete, Copy, Rows, Total, Shared}
+use Rattle.notation.specs.declared.names.Verb.TheVariants as verb
 use Rattle.notation.specs.declared.stages.Stage.{Stage}
 use Rattle.notation.specs.declared.stages.Stage.TheVariants as stage
-use Rattle.notation.specs.declared.entries.View.{View}
-use Rattle.notation.specs.declared.entries.Contract.{Contract}
-use Rattle.notation.specs.declared.entries.Entry.{Entry}
-use Rattle.notation.specs.declared.entries.Entry.TheVariants as entry
 
 -- what was read is handed on, a reason leaves
 abbrev pub then : {A B E : Type 0} → Result A E → (A → Result B E) → Result B E
@@ -66,20 +63,20 @@ range_at line place =
     then (key_at line place)
     (λ from. then (key_at line (place + 1)) (λ to. then (ends line (place + 2)) (λ _. Ok (record { from = from; to = to }))))
 
-abbrev pub shared_said : List ℕ → Result Query Reason
-shared_said line =
+abbrev pub query_said : QueryKind → List ℕ → Result Query Reason
+query_said Rows line = then (range_at line 2) (λ range. Ok (query.Rows range))
+query_said Total line = then (range_at line 2) (λ range. Ok (query.Total range))
+query_said Shared line =
     then (compartment_at line 2) (λ a. then (compartment_at line 3) (λ b. then (range_at line 4) (λ range. Ok (query.Shared a b range))))
 
 -- what the user asks for, behind the verb
 abbrev pub asked : Verb → ℕ → List ℕ → Result Request Reason
-asked Write user line =
+asked verb.Write user line =
     then (key_at line 2)
     (λ key. then (key_at line 3) (λ amount. then (ends line 4) (λ _. Ok (request.Write user (record { key = key; amount = amount })))))
-asked Delete user line = then (key_at line 2) (λ key. then (ends line 3) (λ _. Ok (request.Delete user key)))
-asked Copy user line = then (compartment_at line 2) (λ c. then (range_at line 3) (λ range. Ok (request.Copy user c range)))
-asked Rows user line = then (range_at line 2) (λ range. Ok (request.Query user (query.Rows range)))
-asked Total user line = then (range_at line 2) (λ range. Ok (request.Query user (query.Total range)))
-asked Shared user line = then (shared_said line) (λ q. Ok (request.Query user q))
+asked verb.Delete user line = then (key_at line 2) (λ key. then (ends line 3) (λ _. Ok (request.Delete user key)))
+asked verb.Copy user line = then (compartment_at line 2) (λ c. then (range_at line 3) (λ range. Ok (request.Copy user c range)))
+asked (verb.Query kind) user line = then (query_said kind line) (λ q. Ok (request.Query user q))
 
 -- USER VERB ..
 abbrev pub request_said : List ℕ → Result Request Reason
@@ -92,29 +89,22 @@ view_from (suc n) line place =
     cond (bytes_eq (word_at line place) (spelled name.Writes)) (Ok [])
     (then (number_at line place) (λ c. then (view_from n line (place + 1)) (λ cs. Ok (c ∷ cs))))
 
--- in sixteen places; behind the view lies 0
-abbrev pub padded : List ℕ → View
-padded view = record { places = view ++ replicate (16 - length view) 0; seen = length view }
-
--- the numbers behind `sees`
-abbrev pub view_read : List ℕ → Result View Reason
-view_read line = then (view_from 16 line 3) (λ view. Ok (padded view))
-
--- nothing twice, nothing that isn't there, and the compartment written in among them
-abbrev pub stands : ℕ → List ℕ → ℕ → Bool
-stands compartments view writes = distinct_below compartments view && has view writes
+-- what a user sees, and the compartment in which they write
+pub record Seen : Type 0 where
+  pub view : List ℕ
+  pub writes : ℕ
 
 -- .. sees VIEW writes COMPARTMENT
-abbrev pub view_said : ℕ → List ℕ → Result Contract Reason
+abbrev pub view_said : ℕ → List ℕ → Result Seen Reason
 view_said compartments line =
-    then (view_read line) (λ v.
-    then (named name.Writes line (3 + v.seen)) (λ _.
-    then (number_at line (4 + v.seen)) (λ writes.
-    then (ends line (5 + v.seen)) (λ _.
-    cond (stands compartments (take v.seen v.places) writes) (Ok (record { view = v; writes = writes })) (Err BadView)))))
+    then (view_from 16 line 3) (λ view.
+    then (named name.Writes line (3 + length view)) (λ _.
+    then (number_at line (4 + length view)) (λ writes.
+    then (ends line (5 + length view)) (λ _.
+    cond (stands compartments view writes) (Ok (record { view = view; writes = writes })) (Err BadView)))))
 
 -- user USER sees VIEW writes COMPARTMENT
-abbrev pub user_said : ℕ → ℕ → List ℕ → Result Contract Reason
+abbrev pub user_said : ℕ → ℕ → List ℕ → Result Seen Reason
 user_said user compartments line =
     then (named name.User line 0) (λ _. then (next_at user line 1) (λ _. then (named name.Sees line 2) (λ _. view_said compartments line)))
 
@@ -133,25 +123,18 @@ capacity_said compartment line =
 abbrev pub single_numbers : List ℕ → ℕ
 single_numbers ns = cond (nat_lt 32 (users_in ns)) 2 (user_at (users_in ns))
 
+-- what comes next behind so many numbers, two counts among them
+abbrev pub behind_counts : ℕ → ℕ → ℕ → Stage
+behind_counts count single compartments =
+    cond (nat_lt count single) (stage.User ((count - 2) / 18) compartments)
+    (cond (nat_lt (count - single) compartments) (stage.Capacity (count - single)) stage.Requests)
+
 -- what comes next behind the numbers of a policy
 abbrev pub stage_of : List ℕ → Stage
 stage_of ns =
     cond (length ns == 0) stage.Users
-    (cond (length ns == 1) stage.Compartments
-    (cond (nat_lt (length ns) (single_numbers ns)) (stage.User ((length ns - 2) / 18) (compartments_in ns))
-    (cond (nat_lt (length ns - single_numbers ns) (compartments_in ns)) (stage.Capacity (length ns - single_numbers ns)) stage.Requests)))
+    (cond (length ns == 1) stage.Compartments (behind_counts (length ns) (single_numbers ns) (compartments_in ns)))
 
 -- blank, or a remark
 abbrev pub silent : List ℕ → Bool
 silent line = length (word_at line 0) == 0 || slice_index (word_at line 0) 0 == 35
-
-abbrev pub entry_at : Stage → List ℕ → Result Entry Reason
-entry_at stage.Users line = then (count_said name.Users 32 line) (λ n. Ok (entry.Count n))
-entry_at stage.Compartments line = then (count_said name.Compartments 16 line) (λ n. Ok (entry.Count n))
-entry_at (stage.User user compartments) line = then (user_said user compartments line) (λ c. Ok (entry.User c))
-entry_at (stage.Capacity compartment) line = then (capacity_said compartment line) (λ n. Ok (entry.Count n))
-entry_at stage.Requests line = then (request_said line) (λ q. Ok (entry.Request q))
-
--- what a line adds to the trace behind the numbers of the policy
-abbrev pub entry_said : List ℕ → List ℕ → Result Entry Reason
-entry_said ns line = cond (silent line) (Ok entry.Nothing) (entry_at (stage_of ns) line)

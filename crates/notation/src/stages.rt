@@ -1,6 +1,6 @@
 // What comes next in a text, by the numbers of the policy so far.
-ghost use Rattle.notation.specs.Lines.{single_numbers, stage_of};
-ghost use Rattle.std.specs.Prelude.{◌≡◌, slice_index};
+ghost use Rattle.notation.specs.Lines.{behind_counts, single_numbers, stage_of};
+ghost use Rattle.std.specs.Prelude.{◌≡◌, ◌≤◌};
 
 // What comes next.
 #[derive(Clone, Copy)]
@@ -12,22 +12,12 @@ pub(crate) enum Stage {
     Requests,
 }
 
-// A missing number counts as 0.
-fn number_or_0(numbers: &[u64], place: usize) -> u64
-    ensures { result ≡ slice_index numbers.now place }
-{
-    if place < numbers.len() {
-        numbers[place]
-    } else {
-        0
-    }
-}
-
 // How many numbers of a policy are a byte each.
 pub(crate) fn single_numbers(numbers: &[u64]) -> usize
     ensures { result ≡ single_numbers numbers.now }
 {
-    let users = number_or_0(numbers, 0);
+    // A missing number counts as 0.
+    let users = numbers.first().copied().unwrap_or(0);
     if users > 32 {
         2
     } else {
@@ -38,21 +28,27 @@ pub(crate) fn single_numbers(numbers: &[u64]) -> usize
 pub(crate) fn stage_of(numbers: &[u64]) -> Stage
     ensures { result ≡ stage_of numbers.now }
 {
-    if numbers.len() == 0 {
-        return Stage::Users;
+    match numbers {
+        [] => Stage::Users,
+        [_] => Stage::Compartments,
+        [_, compartments, ..] => {
+            behind_counts(numbers.len(), single_numbers(numbers), *compartments)
+        }
     }
-    if numbers.len() == 1 {
-        return Stage::Compartments;
-    }
-    let single = single_numbers(numbers);
-    let compartments = numbers[1];
-    if numbers.len() < single {
+}
+
+// What comes next behind so many numbers, two counts among them.
+fn behind_counts(count: usize, single: usize, compartments: u64) -> Stage
+    requires { 2 ≤ count }
+    ensures { result ≡ behind_counts count single compartments }
+{
+    if count < single {
         return Stage::User {
-            user: (numbers.len() - 2) / 18,
+            user: (count - 2) / 18,
             compartments,
         };
     }
-    let compartment = numbers.len() - single;
+    let compartment = count - single;
     if (compartment as u64) < compartments {
         Stage::Capacity { compartment }
     } else {

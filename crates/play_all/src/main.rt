@@ -7,11 +7,5 @@ use std::process::ExitCode;
 fn main(rt: HostRuntime) -> io::Result<ExitCode> {
     let mut bytes = Vec::new(rt.alloc());
     rt.stdin().read_to_end(&mut bytes)?;
-    let played = playback::play(rt.alloc(), bytes.as_slice())?;
-    rt.print(played.text.as_str())?;
-    let Some(refusal) = played.refused else {
-        return Ok(ExitCode::SUCCESS);
-    };
-    eprintln!(rt; "{refusal}")?;
-    Ok(ExitCode::FAILURE)
+    playback::play(rt.alloc(), bytes.as_slice())?.tell(&rt)
 }

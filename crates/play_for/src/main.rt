@@ -17,23 +17,16 @@ fn main(rt: HostRuntime) -> io::Result<ExitCode> {
     rt.stdin().read_to_end(&mut bytes)?;
     let mut memory = [0; MEMORY];
     let played = playback::play_for(rt.alloc(), &mut memory, user as usize, bytes.as_slice())?;
-    rt.print(played.text.as_str())?;
-    let Some(refusal) = played.refused else {
-        return Ok(ExitCode::SUCCESS);
-    };
-    eprintln!(rt; "{refusal}")?;
-    Ok(ExitCode::FAILURE)
+    played.tell(&rt)
 }
 
 // The user that the one argument names, if it is a decimal number of a byte; the first word is the program's name.
 fn asked(rt: &HostRuntime) -> Option<u8> {
-    let Ok(mut arguments) = env::args(rt) else {
-        return None;
-    };
+    let mut arguments = env::args(rt).ok()?;
     let _ = arguments.next();
     let word = arguments.next()?;
     if arguments.next().is_some() || word.as_str().starts_with("+") {
         return None;
     }
-    word.as_str().parse::<u8>().ok()
+    word.as_str().parse().ok()
 }

@@ -9,9 +9,9 @@ use Rattle.request.specs.declared.Request.TheVariants as request
 use Rattle.request.proofs.Reading.{reads_what_stands}
 use Rattle.std.proofs.lemmas.Bool.{cases_Bool}
 use Rattle.std.specs.List.{AllByRecursion}
-use Rattle.playback.specs.Items.{item_in, items_by, items}
-use Rattle.playback.specs.declared.items.Item.{Item}
-use Rattle.playback.specs.declared.items.Item.TheVariants as item
+use Rattle.played.specs.Items.{outcomes_by, outcomes, items_in, items_of, requests_of}
+use Rattle.played.specs.declared.items.Item.{Item}
+use Rattle.played.specs.declared.items.Item.TheVariants as item
 use Rattle.wire.specs.Bytes.{numbers_in, size}
 use Rattle.wire.specs.NextRequest.{next_in, next_by, whole, request_layout}
 use Rattle.wire.specs.declared.item.Next.{Next}
@@ -45,13 +45,17 @@ by_bounded bytes (Some layout) = elim (cases_Bool (ltb (length bytes) (size layo
   | inr e ↦ rw e (whole_bounded (get_or bytes 1 0) (size layout) (numbers_in layout bytes) (decoded (numbers_in layout bytes)) refl)
 ]
 
-listed : (rest : List ℕ → List Item) (bytes : List ℕ) (x : Next) → NextBounded x → ((bs : List ℕ) → AllByRecursion Bounded (rest bs)) → AllByRecursion Bounded (items_by rest bytes (item_in x))
+listed : (rest : List ℕ → List (Result Item Refusal)) (bytes : List ℕ) (x : Next) → NextBounded x → ((bs : List ℕ) → AllByRecursion Bounded (items_in (rest bs))) →
+    AllByRecursion Bounded (items_in (outcomes_by rest bytes x))
 listed rest bytes (next.Request r n) b each = (b, each (drop n bytes))
 listed rest bytes (next.Fault user place n) b each = (tt, each (drop n bytes))
 listed rest bytes (next.End place) b each = tt
 
-pub items_bounded : (n : ℕ) (bytes : List ℕ) → AllByRecursion Bounded (items n bytes)
-items_bounded zero bytes = tt
-items_bounded (suc n) bytes =
-    let more = listed (items n) bytes (next_in bytes) (by_bounded bytes (request_layout bytes)) (items_bounded n) in
+all_bounded : (n : ℕ) (bytes : List ℕ) → AllByRecursion Bounded (items_in (outcomes n bytes))
+all_bounded zero bytes = tt
+all_bounded (suc n) bytes =
+    let more = listed (outcomes n) bytes (next_in bytes) (by_bounded bytes (request_layout bytes)) (all_bounded n) in
     elim (cases_Bool (eqb (length bytes) 0)) [ inl e ↦ rw e tt | inr e ↦ rw e more ]
+
+pub items_bounded : (bytes : List ℕ) → AllByRecursion Bounded (items_of bytes)
+items_bounded bytes = all_bounded (length (requests_of bytes)) (requests_of bytes)

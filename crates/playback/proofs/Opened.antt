@@ -1,49 +1,27 @@
 -- A trace on memory that is opened: what is printed, left and how it ends, by the numbers of its policy.
-use Rattle.std.proofs.Common.{◌≡◌, ℕ, Bool, false, cond, ltb, List, ◌++◌, length, replicate, Some, None, Ok, Option, sym, refl, ap, ◌∙◌, subst, inl, inr, arith}
+use Rattle.std.proofs.Common.{◌≡◌, ℕ, Bool, false, cond, ltb, List, length, replicate, Some, None, sym, refl, ap, ◌∙◌, subst, inl, inr, arith}
 use Rattle.model.specs.Model.{empty}
 use Rattle.policy.specs.Access.{rules_of, memory_length}
 use Rattle.policy.specs.Laws.{Same}
 use Rattle.policy.specs.Numbers.{rules_in}
 use Rattle.policy.specs.Read.{Reads}
 use Rattle.policy.specs.declared.Policy.{Policy}
-use Rattle.policy.specs.declared.refusal.Refusal.{Refusal}
 use Rattle.policy.specs.declared.refusal.Refusal.TheVariants.{OutOfBounds}
 use Rattle.policy.proofs.Proved.{policies_valid, reads_rules}
 use Rattle.std.proofs.lemmas.List.{length-replicate}
 use Rattle.std.proofs.lemmas.Bool.{cases_Bool, cond-true, cond-false, le-ltb, ltb-false}
-use Rattle.store.specs.Calls.{short, opened, opened_told}
+use Rattle.store.specs.Calls.{short, opened}
 use Rattle.store.proofs.Following.{open_holds}
-use Rattle.playback.specs.Along.{text_along, memory_along, opened_text, opened_memory, opened_end}
-use Rattle.playback.specs.Items.{items, ended, items_of, ended_of, requests_of}
+use Rattle.playback.specs.Along.{text_along, opened_text, opened_memory, opened_end}
+use Rattle.played.specs.Items.{items_of, ended_of}
 use Rattle.playback.specs.Played.{told_text, text_by, end_by, memory_for, short_of, LeftBy}
-use Rattle.playback.specs.Printed.{Line, lent, heard_by, text}
-use Rattle.playback.specs.declared.audience.Audience.{Audience}
-use Rattle.playback.specs.declared.audience.Audience.TheVariants.{One}
+use Rattle.playback.specs.Printed.{Audience, Line, lent, heard_by, text}
 use Rattle.playback.proofs.Bounded.{items_bounded}
 use Rattle.playback.proofs.Whole.{text_is, memory_is, whole_is, lines_alike}
 use Rattle.wire.specs.PolicyNumbers.{policy_of}
 
-pub long_enough : (p : Policy) (memory : List ℕ) (x : Unit {0}) → Ok x ≡ opened_told p memory → short p memory ≡ false
-long_enough p memory x e = elim (cases_Bool (short p memory)) [
-  | inl t ↦ let f = rw t at e in let z : ◌≡◌ {A = ℕ} 0 1 = cc in absurd (omega arith)
-  | inr t ↦ t
-]
-
 blank : length (replicate {A = ℕ} lent 0) ≡ lent
 blank = length-replicate {A = ℕ} lent 0
-
--- what is printed, left and the end behind the policy, on memory that is long enough
-module _ (p : Policy) (a : Audience) (memory ready bytes behind : List ℕ) (e : short p memory ≡ false) (r : ready ≡ opened p memory) (b : behind ≡ requests_of bytes) where
-  pub behind_text : (before after : List ℕ) → after ≡ before ++ text_along p a ready (replicate lent 0) (items (length behind) behind) →
-      after ≡ before ++ opened_text p a memory bytes
-  behind_text before after k =
-      rw (r, b) at k ∙ ap (λ (xs : List ℕ). before ++ xs) (sym (cond-false (short p memory) _ _ e))
-
-  pub behind_memory : (now : List ℕ) → now ≡ memory_along p a ready (replicate lent 0) (items (length behind) behind) → now ≡ opened_memory p a memory bytes
-  behind_memory now k = rw (r, b) at k ∙ sym (cond-false (short p memory) _ _ e)
-
-  pub behind_end : (o : Option Refusal) → o ≡ ended (length behind) behind → o ≡ opened_end p memory bytes
-  behind_end o k = rw b at k ∙ sym (cond-false (short p memory) _ _ e)
 
 module _ (p : Policy) (bytes : List ℕ) (reads : Reads (policy_of bytes) p) where
   same : Same (rules_of p) (rules_in (policy_of bytes)) p.compartments
@@ -53,7 +31,7 @@ module _ (p : Policy) (bytes : List ℕ) (reads : Reads (policy_of bytes) p) whe
       text_along p a (opened p memory) (replicate lent 0) (items_of bytes) ≡ told_text a bytes
   told_is a memory e =
       let long = ltb-false (length memory) (memory_length p) e in
-      text_is p a empty (opened p memory) (replicate lent 0) (items_of bytes) blank (open_holds p memory long) (items_bounded (length (requests_of bytes)) (requests_of bytes))
+      text_is p a empty (opened p memory) (replicate lent 0) (items_of bytes) blank (open_holds p memory long) (items_bounded bytes)
       ∙ (ap text (whole_is (rules_of p) a (items_of bytes) (policies_valid p).sound)
       ∙ ap (λ (ls : List Line). text (heard_by a ls)) (lines_alike (rules_of p) (rules_in (policy_of bytes)) p.compartments 4096 same (policies_valid p) empty (items_of bytes)))
 
@@ -76,7 +54,7 @@ module _ (p : Policy) (bytes : List ℕ) (reads : Reads (policy_of bytes) p) whe
     | inr e ↦ let f = short_is memory ∙ e in rw (e, f) refl
   ]
 
-  pub one_left : (v : ℕ) (memory now : List ℕ) → now ≡ opened_memory p (One v) memory bytes → LeftBy (short_of (length memory) bytes) v bytes memory now
+  pub one_left : (v : ℕ) (memory now : List ℕ) → now ≡ opened_memory p (Some v) memory bytes → LeftBy (short_of (length memory) bytes) v bytes memory now
   one_left v memory now i = elim (cases_Bool (short p memory)) [
     | inl e ↦ let f = short_is memory ∙ e in rw f (i ∙ cond-true (short p memory) _ _ e)
     | inr e ↦

@@ -21,8 +21,8 @@ use Rattle.std.proofs.lemmas.Bool.{cond_both, cond-true, and_parts, and_from, or
 use Rattle.std.proofs.lemmas.Bool.Decides.{nat_tests}
 use Rattle.playback.specs.Enough.{MemoryEnough, RowEnough, NeverShort}
 use Rattle.playback.specs.Printed.{lent, item_tells}
-use Rattle.playback.specs.declared.items.Item.{Item}
-use Rattle.playback.specs.declared.items.Item.TheVariants as item
+use Rattle.played.specs.declared.items.Item.{Item}
+use Rattle.played.specs.declared.items.Item.TheVariants as item
 use Rattle.wire.specs.PolicyNumbers.{policy_of}
 
 -- the bounds of a policy that is not refused

@@ -1,5 +1,5 @@
 -- What is printed along the calls is what the model tells; and for one user, what the whole trace tells them.
-use Rattle.std.proofs.Common.{◌≡◌, ℕ, true, false, eqb, List, [], ◌∷◌, length, replicate, sym, refl, ap, ◌∙◌, subst, inl, inr}
+use Rattle.std.proofs.Common.{◌≡◌, ℕ, true, false, eqb, List, [], ◌∷◌, length, replicate, Some, None, sym, refl, ap, ◌∙◌, subst, inl, inr}
 use Rattle.compartment.specs.Parts.{limit}
 use Rattle.model.specs.Model.{State, empty, lend, response, step, relevant}
 use Rattle.model.proofs.Interference as interference
@@ -20,13 +20,11 @@ use Rattle.std.specs.List.{AllByRecursion}
 use Rattle.store.specs.Served.{served_row, served_memory, heard}
 use Rattle.store.specs.Simulation.{Holds}
 use Rattle.playback.specs.Along.{item_told, item_memory, item_row, text_along, memory_along}
-use Rattle.playback.specs.Items.{from}
+use Rattle.played.specs.Items.{from}
 use Rattle.playback.specs.Played.{made_in}
-use Rattle.playback.specs.Printed.{lent, item_tells, item_step, Line, lines, hears, heard_by, concerns, concerns_one, concerning, text}
-use Rattle.playback.specs.declared.audience.Audience.{Audience}
-use Rattle.playback.specs.declared.audience.Audience.TheVariants.{Everyone, One}
-use Rattle.playback.specs.declared.items.Item.{Item}
-use Rattle.playback.specs.declared.items.Item.TheVariants as item
+use Rattle.playback.specs.Printed.{Audience, lent, item_tells, item_step, Line, lines, hears, heard_by, concerns, concerns_one, concerning, text}
+use Rattle.played.specs.declared.items.Item.{Item}
+use Rattle.played.specs.declared.items.Item.TheVariants as item
 use Rattle.playback.proofs.Bounded.{Bounded}
 
 -- ALONG THE CALLS, AS THE MODEL
@@ -67,13 +65,13 @@ text_is p a s memory row (i ∷ is) l h b =
 
 -- memory does not depend on what the rows hold, but on their length
 pub memory_is : (p : Policy) (v : ℕ) (memory row : List ℕ) (is : List Item) → length row ≡ lent →
-    memory_along p (One v) memory row is ≡ after p memory (purged p v (made_in is))
+    memory_along p (Some v) memory row is ≡ after p memory (purged p v (made_in is))
 memory_is p v memory row [] l = refl
 memory_is p v memory row (item.Request r ∷ is) l =
     elim (cases_Bool (relevant (rules_of p) v (lend r lent))) [
       | inl e ↦ let rest = memory_is p v (served_memory p memory (length row) r) (served_row p memory row r) is (row_keeps p memory row r ∙ l) in
           let k : leaves p memory r (replicate lent 0) ≡ served_memory p memory lent r = leaves_served p memory r (replicate lent 0) in
-          rw (e, l) (subst (λ (m : List ℕ). memory_along p (One v) (served_memory p memory lent r) (served_row p memory row r) is ≡ after p m (purged p v (made_in is))) (sym k) (rw l at rest))
+          rw (e, l) (subst (λ (m : List ℕ). memory_along p (Some v) (served_memory p memory lent r) (served_row p memory row r) is ≡ after p m (purged p v (made_in is))) (sym k) (rw l at rest))
       | inr e ↦ rw e (memory_is p v memory row is l)
     ]
 memory_is p v memory row (item.NoRequest user place ∷ is) l =
@@ -84,7 +82,7 @@ memory_is p v memory row (item.NoRequest user place ∷ is) l =
 
 -- FOR EVERYONE
 
-all_concern : (p : Rules) (is : List Item) → concerning p Everyone is ≡ is
+all_concern : (p : Rules) (is : List Item) → concerning p None is ≡ is
 all_concern p [] = refl
 all_concern p (i ∷ is) = ap (λ js. i ∷ js) (all_concern p is)
 
@@ -124,16 +122,16 @@ module _ (p : Rules) (v : ℕ) (sound : Sound p) where
   unwinding : Unwinding played Related
   unwinding = record { observed_relevant = observed; same_observed = λ s t i a. refl; same_output = same_lines; left_out = left_out; taken = taken }
 
-  told_is : (s : State) (is : List Item) → heard_by (One v) (lines p s is) ≡ told played s is
+  told_is : (s : State) (is : List Item) → heard_by (Some v) (lines p s is) ≡ told played s is
   told_is s [] = refl
   told_is s (i ∷ is) = let rest = told_is (item_step p s i) is in cc
 
-  purge_is : (s : State) (is : List Item) → concerning p (One v) is ≡ purge played s is
+  purge_is : (s : State) (is : List Item) → concerning p (Some v) is ≡ purge played s is
   purge_is s [] = refl
   purge_is s (i ∷ is) = let rest = purge_is (item_step p s i) is in cc
 
   -- what concerns the user alone tells them what the whole trace tells them
-  noninterference : (is : List Item) → heard_by (One v) (lines p empty (concerning p (One v) is)) ≡ heard_by (One v) (lines p empty is)
+  noninterference : (is : List Item) → heard_by (Some v) (lines p empty (concerning p (Some v) is)) ≡ heard_by (Some v) (lines p empty is)
   noninterference is =
       let u = unwound played Related unwinding empty empty is (λ l. record { rows = λ c h. refl; version = λ c h. refl; cache = refl }) in
       let q = purge_is empty is in
@@ -159,5 +157,5 @@ module _ (p q : Rules) (n most : ℕ) (same : Same p q n) (valid : Valid p n mos
 -- ALL TOGETHER: whoever is played for is told what the whole trace tells them
 pub whole_is : (p : Rules) (a : Audience) (is : List Item) → Sound p →
     heard_by a (lines p empty (concerning p a is)) ≡ heard_by a (lines p empty is)
-whole_is p Everyone is sound = rw (all_concern p is) refl
-whole_is p (One v) is sound = noninterference p v sound is
+whole_is p None is sound = rw (all_concern p is) refl
+whole_is p (Some v) is sound = noninterference p v sound is

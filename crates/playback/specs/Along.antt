@@ -1,24 +1,22 @@
 -- What is printed along the calls for whoever is played for, and what memory holds afterwards, for every content.
-use Rattle.std.specs.Prelude.{ℕ, cond, List, [], ◌∷◌, ◌++◌, length, replicate, Some, Option}
+use Rattle.std.specs.Prelude.{ℕ, cond, List, [], ◌∷◌, ◌++◌, length, replicate, Some, Option, Err, Result}
 use Rattle.policy.specs.Access.{rules_of}
 use Rattle.policy.specs.declared.Policy.{Policy}
 use Rattle.policy.specs.declared.refusal.Refusal.{Refusal}
 use Rattle.policy.specs.declared.refusal.Refusal.TheVariants as refusal
 use Rattle.store.specs.Calls.{short, opened}
 use Rattle.store.specs.Served.{served_told, served_memory, served_row, heard}
-use Rattle.store.specs.declared.response.Response.{Response}
-use Rattle.store.specs.declared.response.Response.TheVariants.{Refused}
-use Rattle.playback.specs.Items.{from, items_of, ended_of}
-use Rattle.playback.specs.Printed.{lent, hears, concerns}
-use Rattle.playback.specs.declared.audience.Audience.{Audience}
-use Rattle.playback.specs.declared.items.Item.{Item}
-use Rattle.playback.specs.declared.items.Item.TheVariants.{Request, NoRequest}
+use Rattle.store.specs.declared.reply.Reply.{Reply}
+use Rattle.played.specs.Items.{from, items_of, ended_of}
+use Rattle.playback.specs.Printed.{Audience, lent, hears, concerns}
+use Rattle.played.specs.declared.items.Item.{Item}
+use Rattle.played.specs.declared.items.Item.TheVariants.{Request, NoRequest}
 use Rattle.words.specs.Words.{line}
 
 -- what the call for an item returns
-abbrev pub item_told : Policy → List ℕ → ℕ → Item → Response
+abbrev pub item_told : Policy → List ℕ → ℕ → Item → Result Reply Refusal
 item_told p memory long (Request r) = served_told p memory long r
-item_told p memory long (NoRequest user place) = Refused (refusal.NoRequest place)
+item_told p memory long (NoRequest user place) = Err (refusal.NoRequest place)
 
 -- memory afterwards
 abbrev pub item_memory : Policy → List ℕ → ℕ → Item → List ℕ

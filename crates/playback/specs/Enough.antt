@@ -6,7 +6,7 @@ use Rattle.policy.specs.declared.refusal.Refusal.TheVariants.{ShortRow}
 use Rattle.query.specs.declared.Query.{Query}
 use Rattle.playback.specs.Played.{opening, memory_for}
 use Rattle.playback.specs.Printed.{lent, item_tells}
-use Rattle.playback.specs.declared.items.Item.{Item}
+use Rattle.played.specs.declared.items.Item.{Item}
 use Rattle.wire.specs.PolicyNumbers.{policy_of}
 
 -- no policy of a trace asks for more memory than sixteen compartments of 64 rows and the caches of 32 users

@@ -1,5 +1,4 @@
 -- What the contracts of this crate cite.
-pub mod Items
 pub mod Printed
 pub mod Along
 pub mod Played

@@ -9,12 +9,10 @@ use Rattle.policy.specs.declared.refusal.Refusal.{Refusal}
 use Rattle.policy.specs.declared.refusal.Refusal.TheVariants.{OutOfBounds}
 use Rattle.promises.specs.Traces.{Made, after, purged}
 use Rattle.store.specs.Calls.{opened}
-use Rattle.playback.specs.Items.{items_of, ended_of}
-use Rattle.playback.specs.Printed.{lent, lines, heard_by, text}
-use Rattle.playback.specs.declared.audience.Audience.{Audience}
-use Rattle.playback.specs.declared.audience.Audience.TheVariants.{Everyone}
-use Rattle.playback.specs.declared.items.Item.{Item}
-use Rattle.playback.specs.declared.items.Item.TheVariants.{Request, NoRequest}
+use Rattle.played.specs.Items.{items_of, ended_of}
+use Rattle.playback.specs.Printed.{Audience, lent, lines, heard_by, text}
+use Rattle.played.specs.declared.items.Item.{Item}
+use Rattle.played.specs.declared.items.Item.TheVariants.{Request, NoRequest}
 use Rattle.wire.specs.PolicyNumbers.{policy_of}
 
 -- what the whole trace tells a user, or everyone: the lines that the model gives from an empty store
@@ -35,7 +33,7 @@ abbrev pub opening : List ℕ → Option Refusal
 opening bytes = judged 64 (policy_of bytes)
 
 abbrev pub text_of : List ℕ → List ℕ
-text_of bytes = text_by Everyone (opening bytes) bytes
+text_of bytes = text_by None (opening bytes) bytes
 
 abbrev pub end_of : List ℕ → Option Refusal
 end_of bytes = end_by (opening bytes) bytes

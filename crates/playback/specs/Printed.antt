@@ -1,15 +1,13 @@
 -- Who is told what along a trace, by the model, and the text of it.
-use Rattle.std.specs.Prelude.{ℕ, Bool, true, cond, List, [], ◌∷◌, ◌++◌, ◌==◌}
+use Rattle.std.specs.Prelude.{ℕ, Bool, true, cond, List, [], ◌∷◌, ◌++◌, Some, None, Option, ◌==◌}
 use Rattle.compartment.specs.Parts.{limit}
 use Rattle.model.specs.Model.{State, Response, lend, response, step, relevant}
 use Rattle.model.specs.Model as model
 use Rattle.policy.specs.Rules.{Rules}
 use Rattle.policy.specs.declared.refusal.Refusal.TheVariants as refusal
-use Rattle.playback.specs.Items.{from}
-use Rattle.playback.specs.declared.audience.Audience.{Audience}
-use Rattle.playback.specs.declared.audience.Audience.TheVariants.{Everyone, One}
-use Rattle.playback.specs.declared.items.Item.{Item}
-use Rattle.playback.specs.declared.items.Item.TheVariants.{Request, NoRequest}
+use Rattle.played.specs.Items.{from}
+use Rattle.played.specs.declared.items.Item.{Item}
+use Rattle.played.specs.declared.items.Item.TheVariants.{Request, NoRequest}
 use Rattle.words.specs.Words.{line}
 
 -- the length of the answer row that is lent along a trace: enough for sixteen compartments of 64 rows
@@ -35,10 +33,13 @@ abbrev pub lines : Rules → State → List Item → List Line
 lines p s [] = []
 lines p s (i ∷ is) = record { user = from i; response = item_tells p s i } ∷ lines p (item_step p s i) is
 
--- who is played for: everyone, or one user
+-- who is played for: one user, or everyone
+abbrev pub Audience : Type 0
+Audience = Option ℕ
+
 abbrev pub hears : Audience → ℕ → Bool
-hears Everyone user = true
-hears (One v) user = user == v
+hears None user = true
+hears (Some v) user = user == v
 
 -- the lines of who is played for
 abbrev pub heard_by : Audience → List Line → List Line
@@ -51,8 +52,8 @@ concerns_one p v (Request r) = relevant p v (lend r lent)
 concerns_one p v (NoRequest user place) = user == v
 
 abbrev pub concerns : Rules → Audience → Item → Bool
-concerns p Everyone i = true
-concerns p (One v) i = concerns_one p v i
+concerns p None i = true
+concerns p (Some v) i = concerns_one p v i
 
 abbrev pub concerning : Rules → Audience → List Item → List Item
 concerning p a [] = []

@@ -1,29 +1,17 @@
 // Playing a trace, for everyone or purged for one user: what is told, line by line, and how the trace ended.
 #![tactic(auto)]
 
-ghost use Rattle.std.specs.Prelude.{◌≡◌, length, IfOk, string_bytes, OnOk};
+ghost use Rattle.std.specs.Prelude.{◌≡◌, length, Some, IfOk, string_bytes, OnOk};
 ghost use Rattle.playback.specs.Played.{text_by, text_of, end_by, end_of, opening_with, LeftBy};
-ghost use Rattle.playback.specs.declared.audience.Audience.TheVariants.{One};
 
-mod audience;
-mod items;
+mod concerns;
 pub mod laws;
 mod opening;
 mod turns;
 
 use opening::{play_everyone, play_one};
-use policy::Refusal;
+pub use played::Played;
 use std::alloc::{AllocError, Global};
-
-// What is printed of a trace, and why it was refused or broken off, if it was.
-#[derive(Drop)]
-pub struct Played {
-    pub text: String,
-    pub refused: Option<Refusal>,
-}
-
-// In a trace capacities are at most 64.
-const MOST: u64 = 64;
 
 // Plays the trace in the bytes for everyone.
 pub fn play(heap: Global, bytes: &[u8]) -> Result<Played, AllocError>
@@ -31,11 +19,8 @@ pub fn play(heap: Global, bytes: &[u8]) -> Result<Played, AllocError>
     ensures end { IfOk result (λ x. x.refused ≡ end_of bytes.now) }
 {
     let mut text = String::new(heap);
-    let refused = match wire::read_policy(bytes, MOST) {
-        Ok(policy) => play_everyone(heap, &mut text, &policy, bytes)?,
-        Err(refusal) => Some(refusal),
-    };
-    Ok(Played { text, refused })
+    let end = play_everyone(heap, &mut text, bytes);
+    Played::new(text, end)
 }
 
 // Plays only what is relevant to one user, in lent memory; and what they are told is what the whole trace tells them.
@@ -45,14 +30,11 @@ pub fn play_for(
     user: usize,
     bytes: &[u8],
 ) -> Result<Played, AllocError>
-    ensures text { IfOk result (λ x. string_bytes x.text ≡ text_by (One user) (opening_with (length memory.old) bytes.now) bytes.now) }
+    ensures text { IfOk result (λ x. string_bytes x.text ≡ text_by (Some user) (opening_with (length memory.old) bytes.now) bytes.now) }
     ensures end { IfOk result (λ x. x.refused ≡ end_by (opening_with (length memory.old) bytes.now) bytes.now) }
     ensures after { OnOk result (LeftBy (opening_with (length memory.old) bytes.now) user bytes.now memory.old memory.new) }
 {
     let mut text = String::new(heap);
-    let refused = match wire::read_policy(bytes, MOST) {
-        Ok(policy) => play_one(&mut text, &policy, memory, user, bytes)?,
-        Err(refusal) => Some(refusal),
-    };
-    Ok(Played { text, refused })
+    let end = play_one(&mut text, memory, user, bytes);
+    Played::new(text, end)
 }

@@ -1,28 +1,15 @@
 -- Tests over a list, one element on and at the end: what a loop that makes them keeps.
-use Rattle.std.proofs.Common.{◌≡◌, ℕ, zero, suc, ◌+◌, ◌*◌, ◌<◌, ◌≤◌, Bool, true, false, not, ◌&&◌, ◌||◌, eqb, ltb, leb, List, [], ◌∷◌, length, get_or, take, drop, sym, ◌∙◌, ap, refl, suc-le-suc, zero-le, le_of_suc-le-suc, not-suc-le-zero, arith}
-use Rattle.std.proofs.lemmas.List.{at_drop_more, at_drop_all, take_all}
+use Rattle.std.proofs.Common.{◌≡◌, ℕ, zero, suc, ◌+◌, ◌*◌, ◌<◌, ◌≤◌, Bool, true, leb, List, [], ◌∷◌, length, get_or, take, sym, ◌∙◌, ap, refl, suc-le-suc, zero-le, le_of_suc-le-suc, not-suc-le-zero, arith}
+use Rattle.std.proofs.lemmas.List.{take_all}
 use Rattle.std.proofs.lemmas.Bool.{and_parts, and_from, leb-true}
 use Rattle.policy.specs.Layout.{size, end_from}
 use Rattle.policy.specs.Policies.{all_within, rules_from, lets}
 use Rattle.std.specs.List.{list_all}
-use Rattle.policy.specs.Rules.{Rules, has, all_see, flows}
+use Rattle.policy.specs.Rules.{Rules, all_see, flows}
 use Rattle.policy.specs.declared.contract.Contract.{Contract}
 use Rattle.std.proofs.lemmas.List.Folds.{list_all_more}
 use Rattle.std.proofs.Math.Bool.{and_comm}
-use Rattle.policy.specs.Views.{distinct_below, nobody}
-
-pub has_more : (xs : List ℕ) (c i : ℕ) → i < length xs → has (drop i xs) c ≡ (eqb (get_or xs i 0) c || has (drop (i + 1) xs) c)
-has_more xs c i h = at_drop_more (λ ys. has ys c) xs i 0 h
-
-pub has_all : (xs : List ℕ) (c i : ℕ) → length xs ≤ i → has (drop i xs) c ≡ false
-has_all xs c i h = at_drop_all (λ ys. has ys c) xs i h
-
-pub distinct_more : (xs : List ℕ) (n i : ℕ) → i < length xs →
-    distinct_below n (drop i xs) ≡ (ltb (get_or xs i 0) n && (not (has (drop (i + 1) xs) (get_or xs i 0)) && distinct_below n (drop (i + 1) xs)))
-distinct_more xs n i h = at_drop_more (λ ys. distinct_below n ys) xs i 0 h
-
-pub distinct_all : (xs : List ℕ) (n i : ℕ) → length xs ≤ i → distinct_below n (drop i xs) ≡ true
-distinct_all xs n i h = at_drop_all (λ ys. distinct_below n ys) xs i h
+use Rattle.policy.specs.Views.{nobody}
 
 pub all_at : {X : Type 0} (test : X → Bool) (d : X) (xs : List X) (i : ℕ) → i < length xs → list_all test xs ≡ true → test (get_or xs i d) ≡ true
 all_at test d [] i h e = absurd (not-suc-le-zero h)

@@ -9,11 +9,17 @@ use Rattle.policy.specs.declared.place.Place.{Place}
 use Rattle.policy.specs.declared.place.Written.{Written}
 use Rattle.policy.specs.declared.Policy.{Policy}
 
+abbrev pub contracts_of : Policy → List Contract
+contracts_of p = take p.users p.contracts
+
+abbrev pub places_of : Policy → List Place
+places_of p = take p.compartments p.places
+
 abbrev pub capacities_of : Policy → List ℕ
-capacities_of p = capacities_in (take p.compartments p.places)
+capacities_of p = capacities_in (places_of p)
 
 abbrev pub rules_of : Policy → Rules
-rules_of p = rules_from p.users (take p.users p.contracts) (capacities_of p)
+rules_of p = rules_from p.users (contracts_of p) (capacities_of p)
 
 abbrev pub contract_at : Policy → ℕ → Option Contract
 contract_at p u = cond (nat_lt u p.users) (Some (slice_index_or p.contracts u nobody)) None

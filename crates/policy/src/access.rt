@@ -1,30 +1,31 @@
 // What requests ask of a policy: each answer is a look into a table.
 ghost use Rattle.std.specs.Prelude.{◌≡◌, ◌<◌, IfSome, nat_lt};
 ghost use Rattle.policy.specs.Rules.{flows};
-ghost use Rattle.policy.specs.Access.{rules_of, contract_at, place_at, written_at, Inside, cache_at, may_flow, may_see, may_copy, memory_length};
+ghost use Rattle.policy.specs.Access.{contracts_of, places_of, rules_of, contract_at, place_at, written_at, Inside, cache_at, may_flow, may_see, may_copy, memory_length};
 ghost use Rattle.std.specs.Option.{option_map};
 
 use super::{Contract, Place, Policy, Written};
 
 impl Policy {
-    pub fn users(&self) -> usize
-        ensures { result ≡ self.now.users }
+    // The contracts of all users, by their numbers.
+    pub fn contracts(&self) -> &[Contract]
+        ensures { result.now ≡ contracts_of self.now }
     {
-        self.users
+        &self.contracts[..self.users]
     }
 
-    pub fn compartments(&self) -> usize
-        ensures { result ≡ self.now.compartments }
+    // Where each compartment lies, and how many rows it may hold.
+    pub fn places(&self) -> &[Place]
+        ensures { result.now ≡ places_of self.now }
     {
-        self.compartments
+        &self.places[..self.compartments]
     }
 
     // The contract of a user, if they are there.
     pub fn contract(&self, user: usize) -> Option<&Contract>
         ensures { option_map (λ x. x.now) result ≡ contract_at self.now user }
     {
-        let all = &self.contracts[..];
-        all[..self.users].get(user)
+        self.contracts().get(user)
     }
 
     pub fn has_user(&self, user: usize) -> bool
@@ -73,8 +74,7 @@ impl Policy {
         ensures value { result ≡ place_at self.now compartment }
         ensures inside { IfSome result (Inside self.now) }
     {
-        let all = &self.places[..self.compartments];
-        all.get(compartment as usize).copied()
+        self.places().get(compartment as usize).copied()
     }
 
     // The compartment in which a user writes, if they are there.

@@ -19,7 +19,7 @@ mod tables;
 pub use array_list::ArrayList;
 pub use contract::Contract;
 pub use contract::judge::is_view;
-pub use place::{Place, Written};
+pub use place::{Place, VERSION_LIMIT, Written};
 pub use refusal::Refusal;
 
 // A policy that was judged, with all that a request asks of it worked out.

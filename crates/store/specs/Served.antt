@@ -10,21 +10,21 @@ use Rattle.query.specs.declared.Outcome.{Outcome}
 use Rattle.request.specs.declared.Request.{Request}
 use Rattle.request.specs.declared.Request.TheVariants.{Write, Delete, Copy, Query as Ask}
 use Rattle.store.specs.Calls.{wrote_told, wrote, deleted_told, deleted, copied_told, copied}
-use Rattle.store.specs.declared.response.Response.{Response}
-use Rattle.store.specs.declared.response.Response.TheVariants.{Done, Refused, Answered}
+use Rattle.store.specs.declared.reply.Reply.{Reply}
+use Rattle.store.specs.declared.reply.Reply.TheVariants.{Done, Answered}
 
 -- what a change returns, as a response
-abbrev pub change_response : Result (Unit {0}) Refusal → Response
-change_response (Ok x) = Done
-change_response (Err refusal) = Refused refusal
+abbrev pub change_response : Result (Unit {0}) Refusal → Result Reply Refusal
+change_response (Ok x) = Ok Done
+change_response (Err refusal) = Err refusal
 
 -- what a query returns
-abbrev pub query_response : Result Outcome Refusal → Response
-query_response (Ok outcome) = Answered outcome
-query_response (Err refusal) = Refused refusal
+abbrev pub query_response : Result Outcome Refusal → Result Reply Refusal
+query_response (Ok outcome) = Ok (Answered outcome)
+query_response (Err refusal) = Err refusal
 
 -- the response to a request, with a row of some length
-abbrev pub served_told : Policy → List ℕ → ℕ → Request → Response
+abbrev pub served_told : Policy → List ℕ → ℕ → Request → Result Reply Refusal
 served_told p memory long (Write user row) = change_response (wrote_told p user row memory)
 served_told p memory long (Delete user key) = change_response (deleted_told p user key memory)
 served_told p memory long (Copy user c range) = change_response (copied_told p user c range memory)
@@ -45,10 +45,10 @@ served_row p memory lent (Copy user c range) = lent
 served_row p memory lent (Ask user query) = asked_row p memory lent user query
 
 -- a response read with the row afterwards: refusals have their numbers and places, answers their rows
-abbrev pub heard : Response → List ℕ → model.Response
-heard Done row = done
-heard (Refused refusal) row = refused refusal
-heard (Answered outcome) row = answered (read_answer outcome.answered row) outcome.examined
+abbrev pub heard : Result Reply Refusal → List ℕ → model.Response
+heard (Ok Done) row = done
+heard (Ok (Answered outcome)) row = answered (read_answer outcome.answered row) outcome.examined
+heard (Err refusal) row = refused refusal
 
 -- what a request tells: the response, read with the row afterwards
 abbrev pub tells : Policy → List ℕ → Request → List ℕ → model.Response

@@ -8,12 +8,12 @@ ghost use Rattle.store.specs.Served.{served_told, served_memory, served_row};
 
 mod copying;
 pub mod laws;
-mod response;
+mod reply;
 
-use policy::{Policy, Refusal, Written};
+use policy::{Policy, Refusal};
 use query::{Outcome, Query};
+pub use reply::Reply;
 use request::Request;
-pub use response::Response;
 use rows::{KeyRange, Row};
 
 // Memory of the length that the policy asks for becomes empty; what lies behind is not touched.
@@ -38,12 +38,12 @@ pub fn write(policy: &Policy, memory: &mut [u64], user: usize, row: Row) -> Resu
     if long < policy.memory_length() {
         return Err(Refusal::OutOfBounds { place: long });
     }
-    let Some(Written { compartment, place }) = policy.written(user) else {
+    let Some(written) = policy.written(user) else {
         return Err(Refusal::NoUser { user });
     };
-    let start = place.start;
-    let end = start + (2 + 2 * place.capacity);
-    compartment::write(&mut memory[start..end], start, compartment, row)
+    let start = written.place.start;
+    let end = start + (2 + 2 * written.place.capacity);
+    compartment::write(&mut memory[start..end], written, row)
 }
 
 // The row with the key goes from there.
@@ -55,12 +55,12 @@ pub fn delete(policy: &Policy, memory: &mut [u64], user: usize, key: u32) -> Res
     if long < policy.memory_length() {
         return Err(Refusal::OutOfBounds { place: long });
     }
-    let Some(Written { compartment, place }) = policy.written(user) else {
+    let Some(written) = policy.written(user) else {
         return Err(Refusal::NoUser { user });
     };
-    let start = place.start;
-    let end = start + (2 + 2 * place.capacity);
-    compartment::delete(&mut memory[start..end], start, compartment, key)
+    let start = written.place.start;
+    let end = start + (2 + 2 * written.place.capacity);
+    compartment::delete(&mut memory[start..end], written, key)
 }
 
 // The rows of a range of a compartment that the user sees come to where the user writes, one by one: all of them, or none.
@@ -109,19 +109,28 @@ pub fn ask(
 }
 
 // Any request.
-pub fn serve(policy: &Policy, memory: &mut [u64], row: &mut [u64], request: Request) -> Response
+pub fn serve(
+    policy: &Policy,
+    memory: &mut [u64],
+    row: &mut [u64],
+    request: Request,
+) -> Result<Reply, Refusal>
     ensures told { result ≡ served_told policy.now memory.old (length row.old) request }
     ensures after { memory.new ≡ served_memory policy.now memory.old (length row.old) request }
     ensures lent { row.new ≡ served_row policy.now memory.old row.old request }
 {
     match request {
-        Request::Write { user, row } => Response::of_change(write(policy, memory, user, row)),
-        Request::Delete { user, key } => Response::of_change(delete(policy, memory, user, key)),
+        Request::Write { user, row } => write(policy, memory, user, row)?,
+        Request::Delete { user, key } => delete(policy, memory, user, key)?,
         Request::Copy {
             user,
             compartment,
             range,
-        } => Response::of_change(copy(policy, memory, user, compartment, range)),
-        Request::Query { user, query } => Response::of_query(ask(policy, memory, row, user, query)),
+        } => copy(policy, memory, user, compartment, range)?,
+        Request::Query { user, query } => {
+            let outcome = ask(policy, memory, row, user, query)?;
+            return Ok(Reply::Answered { outcome });
+        }
     }
+    Ok(Reply::Done)
 }

@@ -1,5 +1,7 @@
 -- Rules that are the same print the same.
-use Rattle.std.proofs.Common.{◌≡◌, ℕ, zero, suc, List, [], length, Some, None, Option, refl}
+use Rattle.std.proofs.Common.{◌≡◌, ℕ, List, [], ◌∷◌, refl}
+use Rattle.played.specs.declared.items.Item.{Item}
+use Rattle.played.specs.declared.items.Item.TheVariants as item
 use Rattle.policy.specs.Laws.{Same}
 use Rattle.policy.specs.Rules.{Rules}
 use Rattle.policy.proofs.Alike.{may_see_alike, may_copy_alike}
@@ -8,10 +10,7 @@ use Rattle.query.specs.declared.Query.TheVariants.{Rows, Total, Shared}
 use Rattle.request.specs.declared.Request.{Request}
 use Rattle.request.specs.declared.Request.TheVariants as request
 use Rattle.trace.specs.Decided.{decided, asked}
-use Rattle.trace.specs.Played.{turn, behind, taken, lines}
-use Rattle.wire.specs.NextRequest.{next_in}
-use Rattle.wire.specs.declared.item.Next.{Next}
-use Rattle.wire.specs.declared.item.Next.TheVariants as next
+use Rattle.trace.specs.Played.{told, lines}
 
 module _ (p q : Rules) (n : ℕ) (same : Same p q n) where
   asked_same : (u : ℕ) (x : Query) → asked p u x ≡ asked q u x
@@ -25,18 +24,10 @@ module _ (p q : Rules) (n : ℕ) (same : Same p q n) where
   decided_same (request.Copy u c range) = rw (may_copy_alike p q n same u c) refl
   decided_same (request.Query u x) = let e = asked_same u x in let users = same.users in cc
 
-  turn_same : (x : Next) → turn p x ≡ turn q x
-  turn_same (next.Request r length) = rw (decided_same r) refl
-  turn_same (next.Fault user place length) = refl
-  turn_same (next.End place) = refl
+  told_same : (i : Item) → told p i ≡ told q i
+  told_same (item.Request r) = decided_same r
+  told_same (item.NoRequest user place) = refl
 
-  behind_same : (f g : List ℕ → List ℕ) → ((bytes : List ℕ) → f bytes ≡ g bytes) → (bytes : List ℕ) (k : Option ℕ) → behind f [] bytes k ≡ behind g [] bytes k
-  behind_same f g e bytes None = refl
-  behind_same f g e bytes (Some k) = e _
-
-  pub lines_same : (k : ℕ) (bytes : List ℕ) → lines k p bytes ≡ lines k q bytes
-  lines_same zero bytes = refl
-  lines_same (suc k) bytes =
-      let t = turn_same (next_in bytes) in
-      let b = behind_same (lines k p) (lines k q) (lines_same k) bytes (taken (next_in bytes)) in
-      rw (t, b) refl
+  pub lines_same : (is : List Item) → lines p is ≡ lines q is
+  lines_same [] = refl
+  lines_same (i ∷ is) = let t = told_same i in let rest = lines_same is in rw (t, rest) refl

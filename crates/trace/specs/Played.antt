@@ -1,57 +1,38 @@
 -- What playing a trace prints, and how it ends.
-use Rattle.std.specs.Prelude.{ℕ, zero, suc, cond, List, [], ◌++◌, length, drop, Some, None, Option, ◌==◌}
+use Rattle.std.specs.Prelude.{ℕ, List, [], ◌∷◌, ◌++◌, Some, None, Option}
+use Rattle.played.specs.Items.{from, items_of, ended_of}
+use Rattle.played.specs.declared.items.Item.{Item}
+use Rattle.played.specs.declared.items.Item.TheVariants as item
 use Rattle.policy.specs.Rules.{Rules}
 use Rattle.policy.specs.Numbers.{judged, rules_in}
 use Rattle.policy.specs.declared.refusal.Refusal.{Refusal}
-use Rattle.policy.specs.declared.refusal.Refusal.TheVariants as refusal
-use Rattle.request.specs.declared.Request.{Request}
-use Rattle.request.specs.declared.Request.TheVariants as request
-pub use Rattle.request.specs.Who.{who}
 use Rattle.trace.specs.Decided.{decided}
 use Rattle.trace.specs.Lines.{line}
+use Rattle.trace.specs.declared.words.Words.{Words}
 use Rattle.trace.specs.declared.words.Words.TheVariants.{NoRequest}
-use Rattle.wire.specs.NextRequest.{next_in}
-pub use Rattle.wire.specs.NextRequest.{taken, refused}
-use Rattle.wire.specs.PolicyNumbers.{policy_layout}
-use Rattle.wire.specs.Bytes.{numbers_in, size}
-use Rattle.wire.specs.declared.item.Next.{Next}
-use Rattle.wire.specs.declared.item.Next.TheVariants as next
+pub use Rattle.wire.specs.PolicyNumbers.{policy_of}
 
--- the line of a request; a request that is none has one too if it is whole
-abbrev pub turn : Rules → Next → List ℕ
-turn p (next.Request r length) = line (who r) (decided p r)
-turn p (next.Fault user place length) = line user (NoRequest place)
-turn p (next.End place) = []
+-- what is told of an item; what is no request is told too
+abbrev pub told : Rules → Item → Words
+told p (item.Request r) = decided p r
+told p (item.NoRequest user place) = NoRequest place
 
--- something of the bytes behind a request, or what holds where the trace ends
-abbrev pub behind : {X : Type 0} → (List ℕ → X) → X → List ℕ → Option ℕ → X
-behind rest end bytes None = end
-behind rest end bytes (Some length) = rest (drop length bytes)
+-- its line
+abbrev pub turn : Rules → Item → List ℕ
+turn p i = line (from i) (told p i)
 
--- what is printed of the bytes from here on; every request takes a byte at least, so there are no more than bytes
-abbrev pub lines : ℕ → Rules → List ℕ → List ℕ
-lines zero p bytes = []
-lines (suc n) p bytes = cond (length bytes == 0) [] (turn p (next_in bytes) ++ behind (lines n p) [] bytes (taken (next_in bytes)))
-
-abbrev pub ended : ℕ → List ℕ → Option Refusal
-ended zero bytes = None
-ended (suc n) bytes = cond (length bytes == 0) None (behind (ended n) (refused (next_in bytes)) bytes (taken (next_in bytes)))
-
--- the policy of a trace, as numbers
-abbrev pub policy_of : List ℕ → List ℕ
-policy_of bytes = numbers_in (policy_layout bytes) bytes
-
--- the requests behind it
-abbrev pub requests_of : List ℕ → List ℕ
-requests_of bytes = drop (size (policy_layout bytes)) bytes
+-- all that is printed
+abbrev pub lines : Rules → List Item → List ℕ
+lines p [] = []
+lines p (i ∷ is) = turn p i ++ lines p is
 
 abbrev pub text_by : Option Refusal → List ℕ → List ℕ
 text_by (Some why) bytes = []
-text_by None bytes = lines (length (requests_of bytes)) (rules_in (policy_of bytes)) (requests_of bytes)
+text_by None bytes = lines (rules_in (policy_of bytes)) (items_of bytes)
 
 abbrev pub end_by : Option Refusal → List ℕ → Option Refusal
 end_by (Some why) bytes = Some why
-end_by None bytes = ended (length (requests_of bytes)) (requests_of bytes)
+end_by None bytes = ended_of bytes
 
 -- what a trace prints: nothing where its policy is refused
 abbrev pub text_of : List ℕ → List ℕ

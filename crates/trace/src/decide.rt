@@ -13,20 +13,16 @@ pub(crate) fn decide(policy: &Policy, request: Request) -> Words
     ensures { result ≡ decided (rules_of policy.now) request }
 {
     match request {
-        Request::Write { user, .. } => if_allowed(policy.has_user(user)),
-        Request::Delete { user, .. } => if_allowed(policy.has_user(user)),
+        Request::Write { user, .. } | Request::Delete { user, .. } => {
+            if_allowed(policy.has_user(user))
+        }
         Request::Copy {
             user,
             compartment,
             ..
         } => if_allowed(policy.may_copy(user, compartment as u64)),
-        Request::Query { user, query } => {
-            if policy.has_user(user) {
-                answer(policy, user, query)
-            } else {
-                Words::NotAllowed
-            }
-        }
+        Request::Query { user, query } if policy.has_user(user) => answer(policy, user, query),
+        Request::Query { .. } => Words::NotAllowed,
     }
 }
 
@@ -44,8 +40,7 @@ fn answer(policy: &Policy, user: usize, query: Query) -> Words
     ensures { result ≡ asked (rules_of policy.now) user query }
 {
     match query {
-        Query::Rows { .. } => Words::Undecided,
-        Query::Total { .. } => Words::Undecided,
+        Query::Rows { .. } | Query::Total { .. } => Words::Undecided,
         Query::Shared { a, b, .. } => {
             if policy.sees(user, a as u64) && policy.sees(user, b as u64) {
                 Words::Undecided

@@ -1,25 +1,19 @@
 // Playing a trace: what each user is told, line by line, and how the trace ended.
 #![tactic(auto)]
 
-ghost use Rattle.std.specs.Prelude.{◌≡◌, IfOk, string_bytes};
+ghost use Rattle.std.specs.Prelude.{◌≡◌, ◌++◌, IfOk, string_bytes};
+ghost use Rattle.played.specs.Ended.{EndsBy, UnlessMemory};
 ghost use Rattle.trace.specs.Played.{text_of, end_of};
 
 mod decide;
 mod lines;
-mod opening;
 mod words;
 
-use opening::{play_behind, read_policy};
-use policy::Refusal;
+use lines::play_items;
+pub use played::Played;
+use played::{Items, MOST, Stop};
 use std::alloc::{AllocError, Global};
 pub use words::Words;
-
-// What is printed of a trace, and why it was refused or broken off, if it was.
-#[derive(Drop)]
-pub struct Played {
-    pub text: String,
-    pub refused: Option<Refusal>,
-}
 
 // Plays the trace in the bytes.
 pub fn play(heap: Global, bytes: &[u8]) -> Result<Played, AllocError>
@@ -27,9 +21,14 @@ pub fn play(heap: Global, bytes: &[u8]) -> Result<Played, AllocError>
     ensures end { IfOk result (λ p. p.refused ≡ end_of bytes.now) }
 {
     let mut text = String::new(heap);
-    let refused = match read_policy(bytes) {
-        Ok(policy) => play_behind(&mut text, &policy, bytes)?,
-        Err(refusal) => Some(refusal),
-    };
-    Ok(Played { text, refused })
+    let end = play_into(&mut text, bytes);
+    Played::new(text, end)
+}
+
+fn play_into(text: &mut String, bytes: &[u8]) -> Result<(), Stop>
+    ensures text { UnlessMemory result (string_bytes text.new ≡ string_bytes text.old ++ text_of bytes.now) }
+    ensures end { EndsBy result (end_of bytes.now) }
+{
+    let policy = wire::read_policy(bytes, MOST)?;
+    play_items(text, &policy, Items::of(bytes))
 }

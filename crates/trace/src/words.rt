@@ -1,7 +1,7 @@
 // What a user is told of a request, as it is printed.
 
 // The words of a response.
-#[derive(Clone, Copy)]
+#[derive(Clone, Copy, PartialEq, Eq, Debug)]
 pub enum Words {
     // The request is none: a number in it is out of bounds.
     NoRequest { place: usize },

@@ -1,9 +1,9 @@
 // The queries that a user was answered since what they see was changed.
-use crate::same::same_query;
+use crate::side::Response;
 use query::Query;
 use request::Request;
 use std::alloc::{AllocError, Global};
-use store::Response;
+use store::Reply;
 
 #[derive(Drop)]
 pub(crate) struct Recent {
@@ -19,7 +19,7 @@ impl Recent {
 
     // What the user sees was changed, if this was done.
     pub(crate) fn changed(&mut self, response: Response) {
-        if matches!(response, Response::Done) {
+        if response == Ok(Reply::Done) {
             self.forget();
         }
     }
@@ -37,22 +37,13 @@ impl Recent {
         let Request::Query { query, .. } = request else {
             return Ok(false);
         };
-        let Response::Answered { outcome } = response else {
+        let Ok(Reply::Answered { outcome }) = response else {
             return Ok(false);
         };
-        if self.holds(query) {
+        if self.queries.contains(&query) {
             return Ok(outcome.examined > 0);
         }
         self.queries.push(query)?;
         Ok(false)
-    }
-
-    fn holds(&self, query: Query) -> bool {
-        for before in self.queries.iter() {
-            if same_query(*before, query) {
-                return true;
-            }
-        }
-        false
     }
 }

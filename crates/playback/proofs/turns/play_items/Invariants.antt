@@ -1,17 +1,17 @@
-use Rattle.std.proofs.Common.{◌≡◌, ℕ, ◌-◌, ◌≤◌, ◌++◌, length, drop, string_bytes}
+use Rattle.std.proofs.Common.{◌≡◌, ◌++◌, replicate, string_bytes}
+use Rattle.played.specs.Items.{left, items_in, end_in}
 use Rattle.playback.specs.Along.{text_along, memory_along}
-use Rattle.playback.specs.Items.{items, ended}
+use Rattle.playback.specs.Printed.{lent}
 use Rattle.playback.proofs.turns.play_items.Given as goal
 
--- what was printed and what is left to print are the whole, and memory becomes the same
-abbrev pub invariant-loop-at : goal.invariant-loop-at
-invariant-loop-at l =
-    (n : ℕ) × (length l.bytes - l.at ≤ n)
-    × (string_bytes l.text ++ text_along l.policy l.audience l.memory l.row (items n (drop l.at l.bytes))
-    ≡ string_bytes l.initial.text ++ text_along l.policy l.audience l.initial.memory l.initial.row (items (length l.bytes) l.bytes))
-    × (memory_along l.policy l.audience l.memory l.row (items n (drop l.at l.bytes))
-    ≡ memory_along l.policy l.audience l.initial.memory l.initial.row (items (length l.bytes) l.bytes))
-    × (ended n (drop l.at l.bytes) ≡ ended (length l.bytes) l.bytes)
-
-abbrev pub decreases-loop-at : goal.decreases-loop-at
-decreases-loop-at l = length l.bytes - l.at
+-- what was printed and what is left to print are the whole, memory becomes the same, and it ends the same
+abbrev pub invariant-loop-item : goal.invariant-loop-item
+invariant-loop-item l = record {
+  can : (goal.iterator-loop-item).can_next l.item-iterator;
+  finite : (goal.iterator-loop-item).is_finite l.item-iterator;
+  text : string_bytes l.text ++ text_along l.policy l.viewer l.memory l.row (items_in (left l.item-iterator))
+      ≡ string_bytes l.initial.text ++ text_along l.policy l.viewer l.initial.memory (replicate lent 0) (items_in (left l.fn.items));
+  memory : memory_along l.policy l.viewer l.memory l.row (items_in (left l.item-iterator))
+      ≡ memory_along l.policy l.viewer l.initial.memory (replicate lent 0) (items_in (left l.fn.items));
+  end : end_in (left l.item-iterator) ≡ end_in (left l.fn.items);
+}

@@ -1,9 +1,0 @@
-use Rattle.std.proofs.lemmas.Bool.{ne_eqb}
-use Rattle.playback.specs.Printed.{lent}
-use Rattle.playback.proofs.Relevance.{change_of_others}
-use Rattle.playback.proofs.audience.is_relevant.Goals as goal
-
-pub returns-then-not-is_query : goal.returns-then-not-is_query
-returns-then-not-is_query c =
-    change_of_others c.args.policy.now c.args.user lent c.user_of-other.result c.args.request c.in-Some.written c.sees.result
-    c.user_of-other.ensures (ne_eqb _ _ c.if-other-user.false) c.in-Some.ensures.value c.if-not-is_query.ensures c.sees.ensures

@@ -1,0 +1,33 @@
+// What concerns a user for whom a trace is played.
+ghost use Rattle.std.specs.Prelude.{◌≡◌};
+ghost use Rattle.model.specs.Model.{lend, relevant};
+ghost use Rattle.policy.specs.Access.{rules_of};
+ghost use Rattle.playback.specs.Printed.{concerns_one, lent};
+
+use played::Item;
+use policy::Policy;
+use request::Request;
+
+// Is this played for the user?
+pub(crate) fn concerns(policy: &Policy, user: usize, item: Item) -> bool
+    ensures { result ≡ concerns_one (rules_of policy.now) user item }
+{
+    match item {
+        Item::Request { request } => is_relevant(policy, user, request),
+        Item::NoRequest { user: other, .. } => other == user,
+    }
+}
+
+// A request is relevant to its own user, and to who sees where it may change something.
+fn is_relevant(policy: &Policy, user: usize, request: Request) -> bool
+    ensures { result ≡ relevant (rules_of policy.now) user (lend request lent) }
+{
+    let other = request.user();
+    if other == user {
+        return true;
+    }
+    let Some(written) = policy.written(other) else {
+        return false;
+    };
+    !request.is_query() && policy.sees(user, written.compartment as u64)
+}

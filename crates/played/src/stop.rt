@@ -1,0 +1,29 @@
+// Why playing stops before the end of a trace.
+ghost use Rattle.std.specs.Prelude.{◌≡◌};
+ghost use Rattle.played.specs.declared.stop.Stop.TheVariants.{Refused, OutOfMemory};
+
+use policy::Refusal;
+use std::alloc::AllocError;
+
+#[derive(Clone, Copy, PartialEq, Eq, Debug)]
+pub enum Stop {
+    // The policy is refused, memory is too short, or a request is none.
+    Refused { refusal: Refusal },
+    OutOfMemory,
+}
+
+impl From<Refusal> for Stop {
+    ghost from_gives = { λ refusal stop. stop ≡ Refused refusal };
+
+    fn from(refusal: Refusal) -> Stop {
+        Stop::Refused { refusal }
+    }
+}
+
+impl From<AllocError> for Stop {
+    ghost from_gives = { λ _ stop. stop ≡ OutOfMemory };
+
+    fn from(_: AllocError) -> Stop {
+        Stop::OutOfMemory
+    }
+}

@@ -4,7 +4,7 @@ use Rattle.std.proofs.Math.Bool.{and-false}
 use Rattle.std.proofs.lemmas.Bool.{and_from, lt-ltb}
 use Rattle.std.proofs.lemmas.Grind.{common_steps}
 use Rattle.std.proofs.lemmas.List.{get_or_default}
-use Rattle.policy.specs.Access.{contracts_of, capacities_of, may_flow, rules_of}
+use Rattle.policy.specs.Access.{contracts_of, places_of, may_flow, rules_of}
 use Rattle.policy.specs.Rules.{flows}
 use Rattle.policy.specs.Views.{view_of, nobody}
 use Rattle.policy.specs.declared.contract.Contract.{Contract}
@@ -15,8 +15,8 @@ use Rattle.overview.specs.Shown.{shows_flow, user_bytes, user_of}
 pub users_counted : (p : Policy) → length (contracts_of p) ≡ p.users
 users_counted p = grind (arith, common_steps, p.few_users, p.contracts_long)
 
-pub compartments_counted : (p : Policy) → length (capacities_of p) ≡ p.compartments
-compartments_counted p = grind (arith, common_steps, p.few_compartments, p.capacities_long)
+pub compartments_counted : (p : Policy) → length (places_of p) ≡ p.compartments
+compartments_counted p = grind (arith, common_steps, p.few_compartments, p.places_long)
 
 pub user_there : (shape : Shape) (p : Policy) (user : ℕ) (c : Contract) → user < length (contracts_of p) → c ≡ get_or (contracts_of p) user c
     → user_bytes shape user (view_of c) c.writes ≡ user_of shape (rules_of p) user

@@ -13,8 +13,8 @@ pub(crate) fn push_compartments<F: Form>(
 ) -> Result<(), AllocError>
     ensures { OnOk result (string_bytes text.new ≡ string_bytes text.old ++ compartments_bytes F.shape (rules_of policy.now) policy.now.compartments) }
 {
-    for (compartment, capacity) in policy.capacities().iter().enumerate() {
-        push_compartment::<F>(text, policy, compartment, *capacity)?;
+    for (compartment, place) in policy.places().iter().enumerate() {
+        push_compartment::<F>(text, policy, compartment, place.capacity as u64)?;
     }
     Ok(())
 }
@@ -30,7 +30,7 @@ fn push_compartment<F: Form>(
     ensures { OnOk result (string_bytes text.new ≡ string_bytes text.old ++ compartment_bytes F.shape (rules_of policy.now) policy.now.compartments from capacity) }
 {
     F::push_compartment(text, from, capacity)?;
-    for to in 0..policy.capacities().len() {
+    for to in 0..policy.places().len() {
         if F::shows(from, to) && policy.may_flow(from as u64, to as u64) {
             F::push_flow(text, from, to)?;
         }

@@ -1,10 +1,11 @@
 -- The first place at which a test holds: one place on; and the two counts of a policy before all others.
-use Rattle.std.proofs.Common.{◌≡◌, ℕ, zero, suc, ◌+◌, ◌-◌, ◌%◌, ◌<◌, ◌≤◌, Bool, true, false, cond, not, ◌&&◌, leb, List, length, get_or, Some, None, sym, refl, ◌∙◌, inl, inr, arith}
+use Rattle.std.proofs.Common.{◌≡◌, ℕ, zero, suc, ◌+◌, ◌-◌, ◌%◌, ◌<◌, ◌≤◌, Bool, true, false, cond, not, ◌&&◌, leb, List, [], ◌∷◌, length, get_or, Some, None, sym, refl, ◌∙◌, inl, inr, arith}
 use Rattle.std.proofs.lemmas.Bool.{cond_both, cond-true, cond-false, cases_Bool, cases_eq, or_parts, and_from, not-false, leb-false}
 use Rattle.std.proofs.lemmas.Bool.Decides.{nat_tests}
+use Rattle.std.specs.List.{position_from}
 use Rattle.policy.specs.Numbers.{first, places, at_fault, within, between, users_in, compartments_in, user_at, Fit}
 
-none_some : {i : ℕ} → None ≡ Some i → ⊥
+pub none_some : {X : Type 0} {x : X} → None ≡ Some x → ⊥
 none_some e = let z : ◌≡◌ {A = ℕ} 0 1 = cc in omega arith
 
 some_some : {i j : ℕ} → Some i ≡ Some j → i ≡ j
@@ -13,14 +14,21 @@ some_some e = cc
 pub first_more : (f : ℕ → Bool) (i n m : ℕ) → n ≡ suc m → first f i n ≡ cond (f i) (Some i) (first f (i + 1) m)
 first_more f i n m e = rw e refl
 
-pub first_here : (f : ℕ → Bool) (i n : ℕ) → 0 < n → f i ≡ true → first f i n ≡ Some i
-first_here f i n h t = first_more f i n (n - 1) (omega arith) ∙ cond-true (f i) _ _ t
-
 pub first_on : (f : ℕ → Bool) (i n m : ℕ) → n ≡ suc m → f i ≡ false → first f i n ≡ first f (i + 1) m
 first_on f i n m e t = first_more f i n m e ∙ cond-false (f i) _ _ t
 
 pub two_places : (xs : List ℕ) → 1 < places xs
 two_places xs = cond_both (between 1 32 (users_in xs) && between 1 16 (compartments_in xs)) (user_at (users_in xs) + compartments_in xs) 2 (λ n. 1 < n) (λ e. omega arith) (λ e. omega arith)
+
+-- the index that `position` gives, where a test of indices says the same
+pub position_first : {X : Type 0} (p : X → Bool) (d : X) (f : ℕ → Bool) (i : ℕ) (xs : List X) → ((k : ℕ) → k < length xs → f (i + k) ≡ p (get_or xs k d)) →
+    position_from p i xs ≡ first f i (length xs)
+position_first p d f i [] same = refl
+position_first p d f i (x ∷ xs) same =
+    let zero_on : i + 0 ≡ i = omega arith in
+    let here : f i ≡ p x = rw zero_on at (same 0 (omega arith)) in
+    let rest = position_first p d f (i + 1) xs (λ k h. let at : i + 1 + k ≡ i + suc k = omega arith in rw at (same (suc k) (omega arith))) in
+    rw (here, rest) refl
 
 pub first_none : (f : ℕ → Bool) (i n : ℕ) → first f i n ≡ None → (k : ℕ) → i ≤ k → k < i + n → f k ≡ false
 first_none f i zero e k low high = absurd (omega arith)
@@ -32,11 +40,6 @@ first_none f i (suc n) e k low high =
         | inr s ↦ first_none f (i + 1) n (sym (cond-false (f i) (Some i) (first f (i + 1) n) t) ∙ e) k (omega arith) (omega arith)
       ]
     ]
-
-pub first_same : (f g : ℕ → Bool) (i n : ℕ) → ((k : ℕ) → k < i + n → f k ≡ g k) → first f i n ≡ first g i n
-first_same f g i zero same = refl
-first_same f g i (suc n) same =
-    let here = same i (omega arith) in let rest = first_same f g (i + 1) n (λ k h. same k (omega arith)) in rw (here, rest) refl
 
 -- what no fault says: everything that `Fit` asks for
 module _ (most : ℕ) (xs : List ℕ) (low : most ≤ 4096) (none : first (at_fault most xs) 0 (places xs) ≡ None) where

@@ -3,3 +3,4 @@ pub mod Judging
 pub mod Reading
 pub mod Proved
 pub mod Alike
+pub mod Made

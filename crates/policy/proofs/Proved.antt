@@ -1,10 +1,10 @@
 -- Proofs of the laws of policies.
-use Rattle.std.proofs.Common.{◌≡◌, ℕ, zero, suc, ◌+◌, ◌<◌, ◌≤◌, Bool, true, false, not, ◌&&◌, ◌||◌, eqb, ltb, List, [], ◌∷◌, length, get_or, take, drop, Some, None, Decides, Option, sym, refl, inl, inr, le_of_suc-le-suc, not-suc-le-zero, arith}
-use Rattle.std.proofs.lemmas.List.{get_or-take, get_or-drop, length-take-le}
-use Rattle.std.proofs.lemmas.Bool.{and_parts, ltb-true, or_parts, or_cases, eqb-true, eqb-false, not-true, both_ways}
+use Rattle.std.proofs.Common.{◌≡◌, ℕ, zero, suc, ◌+◌, ◌<◌, ◌≤◌, Bool, true, false, not, ◌&&◌, ◌||◌, eqb, ltb, List, [], ◌∷◌, length, get_or, take, drop, Some, None, Decides, Option, IfSome, sym, refl, ◌∙◌, inl, inr, le_of_suc-le-suc, not-suc-le-zero, arith}
+use Rattle.std.proofs.lemmas.List.{get_or-take, get_or-drop, length-take-le, length-map}
+use Rattle.std.proofs.lemmas.Bool.{and_parts, cases_Bool, cases_lt, ltb-true, lt-ltb, le-ltb, or_parts, or_cases, eqb-true, eqb-false, not-true, both_ways}
 use Rattle.std.proofs.lemmas.Bool.Decides.{Decides-below_and}
 use Rattle.std.specs.Option.{option_map}
-use Rattle.policy.specs.Access.{rules_of, capacities_of}
+use Rattle.policy.specs.Access.{rules_of, capacities_of, contract_at, place_at, Inside}
 use Rattle.policy.specs.Layout.{size, starts_from, end_from}
 use Rattle.policy.specs.Laws.{JudgedLowest, PoliciesValid, ReadsRules, FlowsBothWays, FlowsDown, CompartmentsApart}
 use Rattle.policy.specs.Numbers.{first, at_fault, places, bad_view, users_in, compartments_in, user_at, or_else}
@@ -12,7 +12,8 @@ use Rattle.policy.specs.Rules.{has, sees, all_see}
 use Rattle.policy.specs.Views.{view_of, distinct_below, valid, nobody}
 use Rattle.policy.specs.declared.Policy.{Policy}
 use Rattle.policy.specs.declared.refusal.Refusal.TheVariants.{OutOfBounds, BadView}
-use Rattle.policy.proofs.Judging.{first_none, first_some}
+use Rattle.policy.specs.declared.contract.Contract.{Contract}
+use Rattle.policy.proofs.Judging.{first_none, first_some, none_some}
 use Rattle.policy.proofs.Steps.{all_at, within_at}
 
 -- which of the two judgements refused
@@ -65,6 +66,10 @@ distinct_once n (x ∷ xs) e zero (suc j) l h =
 distinct_once n (x ∷ xs) e (suc i) (suc j) l h =
     distinct_once n xs (and_parts (not (has xs x)) (distinct_below n xs) (and_parts (ltb x n) _ e).1).1 i j (le_of_suc-le-suc l) (le_of_suc-le-suc h)
 
+-- each compartment has a capacity
+pub capacities_long : (p : Policy) → length (capacities_of p) ≡ p.compartments
+capacities_long p = rw length-map (length-take-le p.compartments p.places (omega arith))
+
 pub policies_valid : PoliciesValid
 policies_valid p =
     let cs = take p.users p.contracts in
@@ -74,7 +79,7 @@ policies_valid p =
       sound = λ u h. (stands u h).1;
       there = λ u i h. distinct_there n (view_of (get_or cs u nobody)) (stands u h).0 i;
       once = λ u i j h. distinct_once n (view_of (get_or cs u nobody)) (stands u h).0 i j;
-      bounded = λ c h. within_at 4096 (capacities_of p) c (omega (arith, length-take-le n p.capacities (omega arith))) p.bounded;
+      bounded = λ c h. within_at 4096 (capacities_of p) c (omega (arith, capacities_long p)) p.bounded;
     }
 
 has_below : (n c : ℕ) (xs : List ℕ) → distinct_below n xs ≡ true → has xs c ≡ true → c < n
@@ -95,6 +100,17 @@ seen_there p u c h s =
 
 pub written_there : (p : Policy) (u : ℕ) → u < p.users → (rules_of p).writes u < p.compartments
 written_there p u h = seen_there p u ((rules_of p).writes u) h ((policies_valid p).sound u h)
+
+-- a contract that was found is the user's
+pub contract_found : (p : Policy) (u : ℕ) (k : Contract) → Some k ≡ contract_at p u → (u < p.users) × (k ≡ get_or (take p.users p.contracts) u nobody)
+contract_found p u k e =
+    elim (cases_Bool (ltb u p.users)) [
+      | inl t ↦
+          let h = ltb-true u p.users t in
+          let found : Some k ≡ Some (get_or p.contracts u nobody) = rw t at e in
+          let same : k ≡ get_or p.contracts u nobody = cc in (h, same ∙ sym (get_or-take p.users p.contracts u nobody h))
+      | inr f ↦ let none : Some k ≡ None = rw f at e in absurd (none_some (sym none))
+    ]
 
 pub reads_rules : ReadsRules
 reads_rules xs p r =
@@ -141,5 +157,12 @@ apart at (x ∷ cs) (suc c) (suc d) l h = apart (at + size x) cs c d (le_of_suc-
 pub compartments_apart : CompartmentsApart
 compartments_apart p d h =
     let cs = capacities_of p in
-    let k : d < length cs = omega (arith, length-take-le p.compartments p.capacities (omega arith)) in
+    let k : d < length cs = omega (arith, capacities_long p) in
     ((within_end 0 cs d k).1, λ c l. apart 0 cs c d l k)
+
+-- a compartment lies within the memory that the policy asks for
+pub places_inside : (p : Policy) (c : ℕ) → IfSome (place_at p c) (Inside p)
+places_inside p c = elim (cases_lt c p.compartments) [
+  | inl h ↦ rw (lt-ltb c p.compartments h) (omega (arith, (compartments_apart p c h).0))
+  | inr h ↦ rw (le-ltb c p.compartments h) tt
+]

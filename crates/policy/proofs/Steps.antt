@@ -1,46 +1,27 @@
 -- Tests over a list, one element on and at the end: what a loop that makes them keeps.
-use Rattle.std.proofs.Common.{◌≡◌, ℕ, zero, suc, ◌+◌, ◌*◌, ◌<◌, ◌≤◌, Bool, true, false, not, ◌&&◌, ◌||◌, eqb, ltb, leb, List, [], ◌∷◌, length, get_or, drop, refl, suc-le-suc, zero-le, le_of_suc-le-suc, not-suc-le-zero, arith}
-use Rattle.std.proofs.lemmas.List.{at_drop_more, at_drop_all}
+use Rattle.std.proofs.Common.{◌≡◌, ℕ, zero, suc, ◌+◌, ◌*◌, ◌<◌, ◌≤◌, Bool, true, leb, List, [], ◌∷◌, length, get_or, take, sym, ◌∙◌, ap, refl, suc-le-suc, zero-le, le_of_suc-le-suc, not-suc-le-zero, arith}
+use Rattle.std.proofs.lemmas.List.{take_all}
 use Rattle.std.proofs.lemmas.Bool.{and_parts, and_from, leb-true}
-use Rattle.policy.specs.Layout.{size, starts_from, end_from}
-use Rattle.policy.specs.Policies.{all, all_within}
-use Rattle.policy.specs.Rules.{Rules, has, sees, all_see}
-use Rattle.policy.specs.Views.{distinct_below}
+use Rattle.policy.specs.Layout.{size, end_from}
+use Rattle.policy.specs.Policies.{all_within, rules_from, lets}
+use Rattle.std.specs.List.{list_all}
+use Rattle.policy.specs.Rules.{Rules, all_see, flows}
+use Rattle.policy.specs.declared.contract.Contract.{Contract}
+use Rattle.std.proofs.lemmas.List.Folds.{list_all_more}
+use Rattle.std.proofs.Math.Bool.{and_comm}
+use Rattle.policy.specs.Views.{nobody}
 
-pub has_more : (xs : List ℕ) (c i : ℕ) → i < length xs → has (drop i xs) c ≡ (eqb (get_or xs i 0) c || has (drop (i + 1) xs) c)
-has_more xs c i h = at_drop_more (λ ys. has ys c) xs i 0 h
-
-pub has_all : (xs : List ℕ) (c i : ℕ) → length xs ≤ i → has (drop i xs) c ≡ false
-has_all xs c i h = at_drop_all (λ ys. has ys c) xs i h
-
-pub distinct_more : (xs : List ℕ) (n i : ℕ) → i < length xs →
-    distinct_below n (drop i xs) ≡ (ltb (get_or xs i 0) n && (not (has (drop (i + 1) xs) (get_or xs i 0)) && distinct_below n (drop (i + 1) xs)))
-distinct_more xs n i h = at_drop_more (λ ys. distinct_below n ys) xs i 0 h
-
-pub distinct_all : (xs : List ℕ) (n i : ℕ) → length xs ≤ i → distinct_below n (drop i xs) ≡ true
-distinct_all xs n i h = at_drop_all (λ ys. distinct_below n ys) xs i h
-
-pub all_see_more : (p : Rules) (a b n m : ℕ) → n ≡ suc m → all_see p a b n ≡ ((not (sees p m b) || sees p m a) && all_see p a b m)
-all_see_more p a b n m e = rw e refl
-
-pub all_at : {X : Type 0} (test : X → Bool) (d : X) (xs : List X) (i : ℕ) → i < length xs → all test xs ≡ true → test (get_or xs i d) ≡ true
+pub all_at : {X : Type 0} (test : X → Bool) (d : X) (xs : List X) (i : ℕ) → i < length xs → list_all test xs ≡ true → test (get_or xs i d) ≡ true
 all_at test d [] i h e = absurd (not-suc-le-zero h)
-all_at test d (x ∷ xs) zero h e = (and_parts (test x) (all test xs) e).0
-all_at test d (x ∷ xs) (suc i) h e = all_at test d xs i (le_of_suc-le-suc h) (and_parts (test x) (all test xs) e).1
+all_at test d (x ∷ xs) zero h e = (and_parts (test x) (list_all test xs) e).0
+all_at test d (x ∷ xs) (suc i) h e = all_at test d xs i (le_of_suc-le-suc h) (and_parts (test x) (list_all test xs) e).1
 
-pub all_from : {X : Type 0} (test : X → Bool) (d : X) (xs : List X) → ((i : ℕ) → i < length xs → test (get_or xs i d) ≡ true) → all test xs ≡ true
+pub all_from : {X : Type 0} (test : X → Bool) (d : X) (xs : List X) → ((i : ℕ) → i < length xs → test (get_or xs i d) ≡ true) → list_all test xs ≡ true
 all_from test d [] each = refl
-all_from test d (x ∷ xs) each = and_from (test x) (all test xs) (each 0 (suc-le-suc zero-le)) (all_from test d xs (λ i h. each (suc i) (suc-le-suc h)))
+all_from test d (x ∷ xs) each = and_from (test x) (list_all test xs) (each 0 (suc-le-suc zero-le)) (all_from test d xs (λ i h. each (suc i) (suc-le-suc h)))
 
 pub within_at : (most : ℕ) (xs : List ℕ) (i : ℕ) → i < length xs → all_within most xs ≡ true → get_or xs i 0 ≤ most
 within_at most xs i h e = leb-true (get_or xs i 0) most (all_at (λ c. leb c most) 0 xs i h e)
-
-pub starts_more : (at : ℕ) (xs : List ℕ) (i : ℕ) → i < length xs →
-    starts_from at (drop i xs) ≡ at ∷ starts_from (at + size (get_or xs i 0)) (drop (i + 1) xs)
-starts_more at xs i h = at_drop_more (λ ys. starts_from at ys) xs i 0 h
-
-pub end_more : (at : ℕ) (xs : List ℕ) (i : ℕ) → i < length xs → end_from at (drop i xs) ≡ end_from (at + size (get_or xs i 0)) (drop (i + 1) xs)
-end_more at xs i h = at_drop_more (λ ys. end_from at ys) xs i 0 h
 
 end_bound : (at : ℕ) (xs : List ℕ) → all_within 4096 xs ≡ true → end_from at xs ≤ at + 8194 * length xs
 end_bound at [] e = omega arith
@@ -50,6 +31,20 @@ end_bound at (c ∷ cs) e =
 
 pub end_within : (xs : List ℕ) → length xs ≤ 16 → all_within 4096 xs ≡ true → end_from 0 xs ≤ 131104
 end_within xs h e = omega (arith, end_bound 0 xs e)
+
+-- rows may flow where each user lets them
+all_see_list : (m : ℕ) (cs : List Contract) (xs : List ℕ) (a b n : ℕ) → n ≤ length cs → all_see (rules_from m cs xs) a b n ≡ list_all (lets a b) (take n cs)
+all_see_list m cs xs a b zero h = refl
+all_see_list m cs xs a b (suc n) h =
+    let more = list_all_more (lets a b) cs n nobody (omega arith) in
+    let rest = all_see_list m cs xs a b n (omega arith) in
+    let next : n + 1 ≡ suc n = omega arith in
+    rw rest (and_comm (lets a b (get_or cs n nobody)) (list_all (lets a b) (take n cs)) ∙ sym more ∙ ap (λ (k : ℕ). list_all (lets a b) (take k cs)) next)
+
+pub lets_flow : (n : ℕ) (cs : List Contract) (xs : List ℕ) (a b : ℕ) → length cs ≡ n → list_all (lets a b) cs ≡ flows (rules_from n cs xs) a b
+lets_flow n cs xs a b long =
+    let whole : take n cs ≡ cs = take_all n cs (omega arith) in
+    sym (all_see_list n cs xs a b n (omega arith) ∙ ap (list_all (lets a b)) whole)
 
 -- flows go by the views alone
 pub all_see_same : (p q : Rules) (a b n : ℕ) → ((u : ℕ) → u < n → p.view u ≡ q.view u) → all_see p a b n ≡ all_see q a b n

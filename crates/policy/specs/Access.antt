@@ -1,7 +1,7 @@
 -- What a policy answers: its rules, and where compartments and caches lie.
 use Rattle.std.specs.Prelude.{ℕ, ◌+◌, ◌*◌, ◌≤◌, Bool, cond, ◌&&◌, List, take, Some, None, Option, nat_lt, slice_index, slice_index_or}
 use Rattle.policy.specs.Layout.{size, starts_from, end_from}
-use Rattle.policy.specs.Policies.{rules_from}
+use Rattle.policy.specs.Policies.{rules_from, capacities_in}
 use Rattle.policy.specs.Rules.{Rules, sees, flows}
 use Rattle.policy.specs.Views.{nobody}
 use Rattle.policy.specs.declared.contract.Contract.{Contract}
@@ -9,11 +9,14 @@ use Rattle.policy.specs.declared.place.Place.{Place}
 use Rattle.policy.specs.declared.place.Written.{Written}
 use Rattle.policy.specs.declared.Policy.{Policy}
 
-abbrev pub capacities_of : Policy → List ℕ
-capacities_of p = take p.compartments p.capacities
-
 abbrev pub contracts_of : Policy → List Contract
 contracts_of p = take p.users p.contracts
+
+abbrev pub places_of : Policy → List Place
+places_of p = take p.compartments p.places
+
+abbrev pub capacities_of : Policy → List ℕ
+capacities_of p = capacities_in (places_of p)
 
 abbrev pub rules_of : Policy → Rules
 rules_of p = rules_from p.users (contracts_of p) (capacities_of p)

@@ -1,10 +1,11 @@
 -- A policy in numbers: how many users and compartments there are; for each user eighteen numbers, how many compartments they
 -- see, sixteen places for them, and the one in which they write; and for each compartment its capacity.
-use Rattle.std.specs.Prelude.{ℕ, zero, suc, ◌+◌, ◌-◌, ◌*◌, ◌%◌, ◌<◌, ◌≤◌, Bool, true, cond, not, ◌&&◌, ◌||◌, List, length, take, drop, Some, None, Option, ◌==◌, nat_le, slice_index}
+use Rattle.std.specs.Prelude.{ℕ, ◌+◌, ◌-◌, ◌*◌, ◌%◌, ◌<◌, ◌≤◌, Bool, true, cond, not, ◌&&◌, ◌||◌, List, length, take, drop, Some, None, Option, ◌==◌, nat_le, slice_index}
 use Rattle.policy.specs.Rules.{Rules}
 use Rattle.policy.specs.Views.{stands}
 use Rattle.policy.specs.declared.refusal.Refusal.{Refusal}
 use Rattle.policy.specs.declared.refusal.Refusal.TheVariants.{OutOfBounds, BadView}
+use Rattle.std.specs.List.{find, range_with_len}
 use Rattle.std.specs.Option.{option_map}
 
 abbrev pub users_in : List ℕ → ℕ
@@ -47,8 +48,7 @@ places xs = cond (between 1 32 (users_in xs) && between 1 16 (compartments_in xs
 
 -- the first of the n places from i on at which a test holds
 abbrev pub first : (ℕ → Bool) → ℕ → ℕ → Option ℕ
-first test i zero = None
-first test i (suc n) = cond (test i) (Some i) (first test (i + 1) n)
+first test i n = find test (range_with_len i n)
 
 -- sees a compartment twice or one that isn't there, or doesn't see the one in which they write
 abbrev pub bad_view : List ℕ → ℕ → Bool

@@ -1,5 +1,6 @@
 -- What reading a policy gives: the rules that the numbers hold.
 use Rattle.std.specs.Prelude.{◌≡◌, ℕ, ◌<◌, true, List, length, take, drop, Some, None, Ok, Err, Option, Result, slice_index_or}
+use Rattle.policy.specs.Access.{capacities_of}
 use Rattle.policy.specs.Policies.{all_valid}
 use Rattle.policy.specs.Views.{view_of, nobody}
 use Rattle.policy.specs.Numbers.{users_in, compartments_in, user_at, view_in, writes_in}
@@ -27,7 +28,7 @@ pub record Reads (xs : List ℕ) (p : Policy) : Type 0 where
   pub users : p.users ≡ users_in xs
   pub compartments : p.compartments ≡ compartments_in xs
   pub contracts : Say xs p.users p.contracts
-  pub capacities : take p.compartments p.capacities ≡ take (compartments_in xs) (drop (user_at (users_in xs)) xs)
+  pub capacities : capacities_of p ≡ take (compartments_in xs) (drop (user_at (users_in xs)) xs)
 
 -- why reading was refused, if it was
 abbrev pub why : {X : Type 0} → Result X Refusal → Option Refusal

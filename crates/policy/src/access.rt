@@ -1,8 +1,7 @@
 // What requests ask of a policy: each answer is a look into a table.
-ghost use Rattle.std.specs.Prelude.{◌≡◌, ◌<◌, ◌&&◌, IfSome, nat_lt};
-ghost use Rattle.policy.specs.Rules.{sees, flows};
-ghost use Rattle.policy.specs.Views.{view_of};
-ghost use Rattle.policy.specs.Access.{capacities_of, contracts_of, rules_of, contract_at, place_at, place_in, written_in, written_at, Inside, cache_at, may_flow, may_see, may_copy, memory_length};
+ghost use Rattle.std.specs.Prelude.{◌≡◌, ◌<◌, IfSome, nat_lt};
+ghost use Rattle.policy.specs.Rules.{flows};
+ghost use Rattle.policy.specs.Access.{contracts_of, places_of, rules_of, contract_at, place_at, written_at, Inside, cache_at, may_flow, may_see, may_copy, memory_length};
 ghost use Rattle.std.specs.Option.{option_map};
 
 use super::{Contract, Place, Policy, Written};
@@ -15,58 +14,43 @@ impl Policy {
         &self.contracts[..self.users]
     }
 
-    // How many rows each compartment may hold.
-    pub fn capacities(&self) -> &[u64]
-        ensures { result.now ≡ capacities_of self.now }
+    // Where each compartment lies, and how many rows it may hold.
+    pub fn places(&self) -> &[Place]
+        ensures { result.now ≡ places_of self.now }
     {
-        &self.capacities[..self.compartments]
+        &self.places[..self.compartments]
     }
 
     // The contract of a user, if they are there.
     pub fn contract(&self, user: usize) -> Option<&Contract>
         ensures { option_map (λ x. x.now) result ≡ contract_at self.now user }
     {
-        if user < self.users {
-            Some(&self.contracts[user])
-        } else {
-            None
-        }
+        self.contracts().get(user)
     }
 
     pub fn has_user(&self, user: usize) -> bool
         ensures { result ≡ nat_lt user (rules_of self.now).users }
     {
-        self.users > user
+        user < self.users
     }
 
     // The user is there and sees the compartment.
     pub fn sees(&self, user: usize, compartment: u64) -> bool
         ensures { result ≡ may_see (rules_of self.now) user compartment }
     {
-        user < self.users && self.of_user(user).sees(compartment)
+        self.contract(user)
+            .is_some_and(|contract| contract.sees(compartment))
     }
 
     // The user sees the compartment, and its rows may flow to where the user writes.
     pub fn may_copy(&self, user: usize, compartment: u64) -> bool
         ensures { result ≡ may_copy (rules_of self.now) user compartment }
     {
-        user < self.users && self.copies(user, compartment)
-    }
-
-    fn of_user(&self, user: usize) -> &Contract
-        requires { user < self.now.users }
-        ensures view { view_of result.now ≡ (rules_of self.now).view user }
-        ensures writes { result.now.writes ≡ (rules_of self.now).writes user }
-    {
-        &self.contracts[user]
-    }
-
-    fn copies(&self, user: usize, compartment: u64) -> bool
-        requires { user < self.now.users }
-        ensures { result ≡ (sees (rules_of self.now) user compartment && flows (rules_of self.now) compartment ((rules_of self.now).writes user)) }
-    {
-        let contract = self.of_user(user);
-        contract.sees(compartment) && self.flow(compartment as usize, contract.writes() as usize)
+        let Some(contract) = self.contract(user) else {
+            return false;
+        };
+        let writes = contract.writes() as usize;
+        contract.sees(compartment) && self.flow(compartment as usize, writes)
     }
 
     // Both compartments are there, and everybody who sees b sees a.
@@ -90,11 +74,7 @@ impl Policy {
         ensures value { result ≡ place_at self.now compartment }
         ensures inside { IfSome result (Inside self.now) }
     {
-        if compartment < self.compartments as u64 {
-            Some(self.place_in(compartment as usize))
-        } else {
-            None
-        }
+        self.places().get(compartment as usize).copied()
     }
 
     // The compartment in which a user writes, if they are there.
@@ -102,45 +82,19 @@ impl Policy {
         ensures value { result ≡ written_at self.now user }
         ensures inside { IfSome result (λ w. Inside self.now w.place) }
     {
-        if user < self.users {
-            Some(self.written_in(user))
-        } else {
-            None
-        }
-    }
-
-    fn written_in(&self, user: usize) -> Written
-        requires { user < self.now.users }
-        ensures value { result ≡ written_in self.now user }
-        ensures inside { Inside self.now result.place }
-    {
-        let compartment = self.of_user(user).writes() as usize;
-        Written {
-            compartment,
-            place: self.place_in(compartment),
-        }
-    }
-
-    fn place_in(&self, compartment: usize) -> Place
-        requires { compartment < self.now.compartments }
-        ensures value { result ≡ place_in self.now compartment }
-        ensures inside { Inside self.now result }
-    {
-        Place {
-            start: self.starts[compartment],
-            capacity: self.capacities[compartment] as usize,
-        }
+        let compartment = self.contract(user)?.writes();
+        let place = self.place(compartment)?;
+        Some(Written {
+            compartment: compartment as usize,
+            place,
+        })
     }
 
     // Where a user's cache begins, if they are there.
     pub fn cache(&self, user: usize) -> Option<usize>
         ensures { result ≡ cache_at self.now user }
     {
-        if user < self.users {
-            Some(self.caches + 192 * user)
-        } else {
-            None
-        }
+        self.has_user(user).then(|| self.caches + 192 * user)
     }
 
     // How long memory must be.

@@ -3,13 +3,14 @@
 
 ghost use Rattle.std.specs.Prelude.{◌≡◌, ◌≤◌, true, length, take};
 ghost use Rattle.policy.specs.Layout.{starts_from, end_from};
-ghost use Rattle.policy.specs.Policies.{flow_table, all_valid, all_within};
+ghost use Rattle.policy.specs.Policies.{flow_table, all_valid, all_within, capacities_in, starts_in};
 
 mod access;
 mod array_list;
 mod contract;
 mod judge;
 pub mod laws;
+mod numbers;
 mod place;
 mod read;
 mod refusal;
@@ -24,24 +25,24 @@ pub use refusal::Refusal;
 // A policy that was judged, with all that a request asks of it worked out.
 #[derive(Clone, Copy)]
 pub struct Policy {
-    // The first `users` contracts and the first `compartments` capacities count.
+    // The first `users` contracts and the first `compartments` places count. They are no `ArrayList`s, since the promises
+    // of the crates above name the two counts.
     users: usize,
     compartments: usize,
     contracts: [Contract; 32],
-    capacities: [u64; 16],
-    // Where each compartment begins in memory, and where the caches do.
-    starts: [usize; 16],
+    places: [Place; 16],
+    // Where the caches begin, behind the compartments.
     caches: usize,
     // Whether rows may flow from a to b, at 16 * a + b.
     flows: [bool; 256],
     ghost contracts_long: { length contracts ≡ 32 },
-    ghost capacities_long: { length capacities ≡ 16 },
+    ghost places_long: { length places ≡ 16 },
     ghost few_users: { users ≤ 32 },
     ghost few_compartments: { compartments ≤ 16 },
     ghost valid: { all_valid compartments (take users contracts) ≡ true },
-    ghost bounded: { all_within 4096 (take compartments capacities) ≡ true },
-    ghost placed: { take compartments starts ≡ starts_from 0 (take compartments capacities) },
-    ghost behind: { caches ≡ end_from 0 (take compartments capacities) },
+    ghost bounded: { all_within 4096 (capacities_in (take compartments places)) ≡ true },
+    ghost placed: { starts_in (take compartments places) ≡ starts_from 0 (capacities_in (take compartments places)) },
+    ghost behind: { caches ≡ end_from 0 (capacities_in (take compartments places)) },
     ghost near: { caches ≤ 131104 },
     ghost flowing: { flows ≡ flow_table (take users contracts) },
 }

@@ -1,9 +1,10 @@
 // Reading a policy: it is judged once, and what later calls need is worked out.
 ghost use Rattle.std.specs.Prelude.{◌≡◌, min, IfOk};
-ghost use Rattle.policy.specs.Numbers.{judged, Fit};
+ghost use Rattle.policy.specs.Numbers.{judged};
 ghost use Rattle.policy.specs.Read.{Stand, Reads, why};
 
-use super::{Contract, Policy, Refusal, judge, tables};
+use super::{Contract, Place, Policy, Refusal, judge, tables};
+use crate::numbers::Numbers;
 
 impl Policy {
     // The policy that the numbers hold, with capacities of at most `most` rows, and never more than 4,096.
@@ -11,31 +12,29 @@ impl Policy {
         ensures refused { why result ≡ judged (min most 4096) numbers.now }
         ensures reads { IfOk result (λ p. Reads numbers.now p) }
     {
-        judge::places(numbers, most.min(4096))?;
-        let contracts = judge::contracts(numbers)?;
-        Ok(Policy::assemble(numbers, contracts))
+        let judged = Numbers::judged(numbers, most.min(4096))?;
+        let contracts = judge::contracts(&judged)?;
+        Ok(Policy::assemble(&judged, contracts))
     }
 
     // The policy of numbers and contracts that were judged, with its tables.
-    fn assemble(numbers: &[u64], contracts: [Contract; 32]) -> Policy
-        requires fit { Fit numbers.now }
-        requires stand { Stand numbers.now contracts }
-        ensures { Reads numbers.now result }
+    fn assemble(numbers: &Numbers, contracts: [Contract; 32]) -> Policy
+        requires { Stand numbers.now.all.now contracts }
+        ensures { Reads numbers.now.all.now result }
     {
-        let users = numbers[0] as usize;
-        let compartments = numbers[1] as usize;
-        let capacities = tables::capacities(numbers, users, compartments);
-        let mut starts = [0; 16];
-        let caches = tables::place(&mut starts, &capacities[0..compartments]);
-        let mut flows = [false; 256];
+        let users = numbers.users();
+        let mut places = [Place {
+            start: 0,
+            capacity: 0,
+        }; 16];
+        let caches = tables::place(&mut places, numbers.capacities());
         let all = &contracts[..];
-        tables::fill_flows(&mut flows, &all[0..users]);
+        let flows = tables::flows(&all[..users]);
         Policy {
             users,
-            compartments,
+            compartments: numbers.compartments() as usize,
             contracts,
-            capacities,
-            starts,
+            places,
             caches,
             flows,
         }

@@ -1,57 +1,42 @@
 // A user's contract from the numbers of a policy.
-ghost use Rattle.std.specs.Prelude.{◌≡◌, ℕ, ◌+◌, ◌*◌, ◌<◌, ◌≤◌, length, slice_index};
-ghost use Rattle.policy.specs.Numbers.{user_at};
+ghost use Rattle.std.specs.Prelude.{◌≡◌, ◌<◌, length};
+ghost use Rattle.policy.specs.Numbers.{users_in};
 ghost use Rattle.policy.specs.Read.{Says, Say};
 
 use super::Contract;
 use crate::ArrayList;
+use crate::numbers::Numbers;
+use std::array::from_fn;
 
 impl Contract {
-    // Sees nothing.
-    fn nobody() -> Contract {
-        Contract {
-            view: ArrayList::new(0),
-            writes: 0,
-        }
-    }
-
-    // What lies behind the view is not looked at.
-    fn of_user(numbers: &[u64], user: usize) -> Contract
-        requires there { user_at user + 18 ≤ length numbers.now }
-        requires few { slice_index numbers.now (user_at user) ≤ 16 }
-        ensures { Says numbers.now user result }
+    // Whoever is not there sees nothing. What lies behind a view is not looked at.
+    fn of_user(numbers: &Numbers, user: usize) -> Contract
+        ensures { user < users_in numbers.now.all.now → Says numbers.now.all.now user result }
     {
+        if user >= numbers.users() {
+            return Contract {
+                view: ArrayList::new(0),
+                writes: 0,
+            };
+        }
         let at = 2 + 18 * user;
-        let seen = numbers[at] as usize;
-        let view = ArrayList::of(&numbers[at + 1..at + 1 + seen], 0).unwrap();
+        let all = numbers.all;
+        let seen = all[at] as usize;
         Contract {
-            view,
-            writes: numbers[at + 17],
+            view: ArrayList::of(&all[at + 1..at + 1 + seen], 0).unwrap(),
+            writes: all[at + 17],
         }
     }
 
     // The contracts of all users.
-    pub(crate) fn of_users(numbers: &[u64], users: usize) -> [Contract; 32]
-        requires few { users ≤ 32 }
-        requires there { user_at users ≤ length numbers.now }
-        requires counts { (u : ℕ) → u < users → slice_index numbers.now (user_at u) ≤ 16 }
+    pub(crate) fn of_users(numbers: &Numbers) -> [Contract; 32]
         ensures long { length result ≡ 32 }
-        ensures say { Say numbers.now users result }
+        ensures say { Say numbers.now.all.now (users_in numbers.now.all.now) result }
     {
-        let mut contracts = [Contract::nobody(); 32];
-        fill(&mut contracts, numbers, users);
-        contracts
-    }
-}
-
-fn fill(contracts: &mut [Contract], numbers: &[u64], users: usize)
-    requires fits { users ≤ length contracts.old }
-    requires few { users ≤ 32 }
-    requires there { user_at users ≤ length numbers.now }
-    requires counts { (u : ℕ) → u < users → slice_index numbers.now (user_at u) ≤ 16 }
-    ensures { Say numbers.now users contracts.new }
-{
-    for user in 0..users {
-        contracts[user] = Contract::of_user(numbers, user);
+        from_fn(
+            |user: usize| -> Contract
+                ensures { user < users_in numbers.entry.now.all.now → Says numbers.entry.now.all.now user result }
+            { Contract::of_user(numbers, user) },
+        )
     }
 }

@@ -13,8 +13,7 @@ impl Refusal {
             Refusal::OutOfBounds { .. } => 1,
             Refusal::BadView { .. } => 2,
             Refusal::NoRequest { .. } => 3,
-            Refusal::NoUser { .. } => 4,
-            Refusal::NoFlow { .. } => 4,
+            Refusal::NoUser { .. } | Refusal::NoFlow { .. } => 4,
             Refusal::NoRoom { .. } => 5,
             Refusal::NoRow { .. } => 6,
             Refusal::ShortRow { .. } => 7,
@@ -27,15 +26,15 @@ impl Refusal {
         ensures { result ≡ place_of self }
     {
         match self {
-            Refusal::OutOfBounds { place } => place as u128,
-            Refusal::BadView { user } => user as u128,
-            Refusal::NoRequest { place } => place as u128,
-            Refusal::NoUser { user } => user as u128,
+            Refusal::OutOfBounds { place: n }
+            | Refusal::BadView { user: n }
+            | Refusal::NoRequest { place: n }
+            | Refusal::NoUser { user: n }
+            | Refusal::NoRoom { capacity: n }
+            | Refusal::ShortRow { length: n }
+            | Refusal::LastVersion { compartment: n } => n as u128,
             Refusal::NoFlow { compartment } => 32 + compartment as u128,
-            Refusal::NoRoom { capacity } => capacity as u128,
             Refusal::NoRow { key } => key as u128,
-            Refusal::ShortRow { length } => length as u128,
-            Refusal::LastVersion { compartment } => compartment as u128,
         }
     }
 }

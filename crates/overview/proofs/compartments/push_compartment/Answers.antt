@@ -13,7 +13,7 @@ loop-to-preserved g c =
     let p = c.args.policy.now in
     let from = c.args.from in
     let to = c.loop-to.to in
-    let n : length c.capacities-to-end.result.now ≡ p.compartments = rw c.capacities-to-end.ensures (compartments_counted p) in
+    let n : length c.places-to-end.result.now ≡ p.compartments = rw c.places-to-end.ensures (compartments_counted p) in
     let there : to < p.compartments = omega arith in
     let t = string_bytes c.push_compartment.new.text in
     elim c.if-shows.branch [
@@ -33,7 +33,7 @@ loop-to-preserved g c =
 pub returns : goal.returns
 returns g c =
     let p = c.args.policy.now in
-    let n : length c.capacities-to-end.result.now ≡ p.compartments = rw c.capacities-to-end.ensures (compartments_counted p) in
+    let n : length c.places-to-end.result.now ≡ p.compartments = rw c.places-to-end.ensures (compartments_counted p) in
     let all : c.loop-to.to ≡ p.compartments = omega arith in
     let shown = rw all at c.loop-to.invariant in
     grind (arith, common_steps, append_assoc)

@@ -1,5 +1,7 @@
-use Rattle.std.proofs.Common.{◌≡◌, string_bytes, length, arith}
-use Rattle.policy.specs.Access.{rules_of}
+use Rattle.std.proofs.Common.{◌≡◌, string_bytes, length, sym, arith}
+use Rattle.std.proofs.Math.ListN.{get_or-map}
+use Rattle.policy.specs.Access.{rules_of, places_of}
+use Rattle.policy.specs.declared.place.Place.{Place}
 use Rattle.overview.specs.Shown.{compartment_of}
 use Rattle.overview.proofs.Listing.{listed_more}
 use Rattle.overview.proofs.There.{compartments_counted}
@@ -8,7 +10,7 @@ use Rattle.overview.proofs.compartments.push_compartments.Goals as goal
 pub push_compartment-requires : goal.push_compartment-requires
 push_compartment-requires g c =
     let p = c.args.policy.now in
-    let n : length c.capacities-capacity-items.result.now ≡ p.compartments = rw c.capacities-capacity-items.ensures (compartments_counted p) in
+    let n : length c.places-place-items.result.now ≡ p.compartments = rw c.places-place-items.ensures (compartments_counted p) in
     omega arith
 
 pub loop-compartment-preserved : goal.loop-compartment-preserved
@@ -16,11 +18,11 @@ loop-compartment-preserved g c =
     let l = c.loop-compartment in
     let p = c.args.policy.now in
     listed_more (compartment_of g.F.Form.shape (rules_of p) p.compartments) (string_bytes c.args.text.now) l.compartment l.invariant
-    (rw c.capacities-capacity-items.ensures at c.in_ok-push_compartment.ensures)
+    (rw (c.places-place-items.ensures, sym (get_or-map (λ (q : Place). q.capacity) (places_of p) l.compartment (record { start = 0; capacity = 0 }))) at c.in_ok-push_compartment.ensures)
 
 pub returns : goal.returns
 returns g c =
     let p = c.args.policy.now in
-    let n : length c.capacities-capacity-items.result.now ≡ p.compartments = rw c.capacities-capacity-items.ensures (compartments_counted p) in
+    let n : length c.places-place-items.result.now ≡ p.compartments = rw c.places-place-items.ensures (compartments_counted p) in
     let all : c.loop-compartment.compartment ≡ p.compartments = omega arith in
     rw all at c.loop-compartment.invariant

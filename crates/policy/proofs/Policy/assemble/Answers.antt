@@ -1,45 +1,47 @@
-use Rattle.std.proofs.Common.{◌≡◌, ◌-◌, true, take, sym, refl, arith}
-use Rattle.std.proofs.lemmas.List.{length-take, length-take-le}
-use Rattle.policy.specs.Numbers.{users_in, compartments_in}
-use Rattle.policy.specs.Policies.{all_within}
-use Rattle.policy.proofs.Reading.{capacities_within}
+use Rattle.std.proofs.Common.{sym, arith}
+use Rattle.policy.proofs.Reading.{capacities_within, capacities_taken}
 use Rattle.policy.proofs.Steps.{end_within}
 use Rattle.policy.proofs.Policy.assemble.Goals as goal
 
-pub place-caches-requires : goal.place-caches-requires
-place-caches-requires c =
-    let xs = c.args.numbers.now in
-    let cut : compartments_in xs - 0 ≡ compartments_in xs = omega arith in
-    record {
-      fits = rw length-take (omega arith);
-      few = rw length-take (omega arith);
-      bounded = rw (cut, c.capacities-capacities.ensures.read) (capacities_within xs c.requires.fit);
-    }
+pub place-caches-requires-clause-bounded : goal.place-caches-requires-clause-bounded
+place-caches-requires-clause-bounded c =
+    rw c.capacities.ensures (capacities_within c.args.numbers.now.all.now c.args.numbers.now.fit)
 
 pub invariant_of-result : goal.invariant_of-result
 invariant_of-result c =
-    let xs = c.args.numbers.now in
-    let caps = c.capacities-capacities in
-    let cut : compartments_in xs - 0 ≡ compartments_in xs = omega arith in
-    let cut_users : users_in xs - 0 ≡ users_in xs = omega arith in
-    let within : all_within 4096 (take (compartments_in xs) caps.result) ≡ true = rw caps.ensures.read (capacities_within xs c.requires.fit) in
-    let long = length-take-le (compartments_in xs) caps.result (omega arith) in
-    let begins = rw (cut, long) at c.place-caches.ensures.begins in
-    let ends = rw cut at c.place-caches.ensures.ends in
-    let near = rw (sym ends) at (end_within (take (compartments_in xs) caps.result) (omega arith) within) in
-    let flowing = rw cut_users at c.fill_flows.ensures in
+    let xs = c.args.numbers.now.all.now in
+    let fit = c.args.numbers.now.fit in
+    let stand = c.requires in
+    let caps = c.capacities.ensures in
+    let long = capacities_taken xs fit in
+    let within = capacities_within xs fit in
+    let read = rw (caps, long) at c.place-caches.ensures.capacities in
+    let starts = rw (caps, long) at c.place-caches.ensures.starts in
+    let end = rw caps at c.place-caches.ensures.end in
+    let few = rw (sym long) at fit.compartments in
     record {
-      contracts_long = c.requires.stand.long;
-      capacities_long = caps.ensures.long;
-      few_users = c.requires.fit.users;
-      few_compartments = c.requires.fit.compartments;
-      valid = c.requires.stand.valid;
-      bounded = within;
-      placed = begins;
-      behind = ends;
-      near = near;
-      flowing = flowing;
+      contracts_long = stand.long;
+      places_long = omega arith;
+      few_users = rw c.users-users.ensures fit.users;
+      few_compartments = rw c.compartments.ensures fit.compartments;
+      valid = rw (c.users-users.ensures, c.compartments.ensures) stand.valid;
+      bounded = rw (c.compartments.ensures, read) within;
+      placed = rw (c.compartments.ensures, read) starts;
+      behind = rw (c.compartments.ensures, read) end;
+      near = rw end (end_within _ few within);
+      flowing = c.flows-flows.ensures;
     }
 
 pub returns : goal.returns
-returns c = record { users = refl; compartments = refl; contracts = c.requires.stand.say; capacities = c.capacities-capacities.ensures.read }
+returns c =
+    let xs = c.args.numbers.now.all.now in
+    let fit = c.args.numbers.now.fit in
+    let caps = c.capacities.ensures in
+    let long = capacities_taken xs fit in
+    let read = rw (caps, long) at c.place-caches.ensures.capacities in
+    record {
+      users = c.users-users.ensures;
+      compartments = c.compartments.ensures;
+      contracts = rw c.users-users.ensures c.requires.say;
+      capacities = rw c.compartments.ensures read;
+    }

@@ -5,3 +5,12 @@
 mod policies;
 #[cfg(test)]
 mod traces;
+
+// A policy of three users: 0 sees 0 and 1, 1 sees 1, 2 sees 1 and 2; each writes in the compartment of their number; capacities 3, 3 and 2.
+pub const THREE: [u64; 59] = [
+    3, 3, //
+    2, 0, 1, 9, 9, 9, 9, 9, 9, 9, 9, 9, 9, 9, 9, 9, 9, 0, //
+    1, 1, 9, 9, 9, 9, 9, 9, 9, 9, 9, 9, 9, 9, 9, 9, 9, 1, //
+    2, 1, 2, 9, 9, 9, 9, 9, 9, 9, 9, 9, 9, 9, 9, 9, 9, 2, //
+    3, 3, 2,
+];

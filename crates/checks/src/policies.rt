@@ -1,38 +1,24 @@
 // A policy of three users: what it says, and how it is refused.
-use policy::{Contract, Place, Policy, Refusal};
+use super::THREE;
+use policy::{Place, Policy, Refusal};
 use std::test::Fail;
 
-// 0 sees 0 and 1, 1 sees 1, 2 sees 1 and 2; each writes in the compartment of their number; capacities 3, 3 and 2.
-const THREE: [u64; 59] = [
-    3, 3, //
-    2, 0, 1, 9, 9, 9, 9, 9, 9, 9, 9, 9, 9, 9, 9, 9, 9, 0, //
-    1, 1, 9, 9, 9, 9, 9, 9, 9, 9, 9, 9, 9, 9, 9, 9, 9, 1, //
-    2, 1, 2, 9, 9, 9, 9, 9, 9, 9, 9, 9, 9, 9, 9, 9, 9, 2, //
-    3, 3, 2,
-];
-
 fn refused(numbers: &[u64], most: u64) -> Option<Refusal> {
-    match Policy::read(numbers, most) {
-        Ok(_) => None,
-        Err(refusal) => Some(refusal),
-    }
+    Policy::read(numbers, most).err()
 }
 
 // The refusal with one number changed.
 fn refused_with(place: usize, number: u64) -> Option<Refusal> {
     let mut numbers = THREE;
-    if place < numbers.len() {
-        numbers[place] = number;
+    if let Some(changed) = numbers.get_mut(place) {
+        *changed = number;
     }
     refused(&numbers, 4096)
 }
 
 #[test]
 fn says_who_sees_what(rt: HostRuntime) -> Result<(), Fail> {
-    let Ok(policy) = Policy::read(&THREE, 64) else {
-        assert!(rt; false);
-        return Ok(());
-    };
+    let policy = Policy::read(&THREE, 64)?;
     assert!(rt; policy.has_user(2) && !policy.has_user(3));
     assert!(rt;
         policy.sees(0, 1)
@@ -50,15 +36,12 @@ fn says_who_sees_what(rt: HostRuntime) -> Result<(), Fail> {
 
 #[test]
 fn says_where_things_lie(rt: HostRuntime) -> Result<(), Fail> {
-    let Ok(policy) = Policy::read(&THREE, 3) else {
-        assert!(rt; false);
-        return Ok(());
+    let policy = Policy::read(&THREE, 3)?;
+    let place = Place {
+        start: 16,
+        capacity: 2,
     };
-    let Some(Place { start, capacity }) = policy.place(2) else {
-        assert!(rt; false);
-        return Ok(());
-    };
-    assert!(rt; start == 16 && capacity == 2);
+    assert!(rt; policy.place(2) == Some(place));
     assert!(rt; policy.place(3).is_none());
     assert!(rt;
         policy.cache(0) == Some(22) && policy.cache(2) == Some(406) && policy.cache(3).is_none()
@@ -69,14 +52,8 @@ fn says_where_things_lie(rt: HostRuntime) -> Result<(), Fail> {
 
 #[test]
 fn gives_contracts(rt: HostRuntime) -> Result<(), Fail> {
-    let Ok(policy) = Policy::read(&THREE, 3) else {
-        assert!(rt; false);
-        return Ok(());
-    };
-    let Some(contract) = policy.contract(2) else {
-        assert!(rt; false);
-        return Ok(());
-    };
+    let policy = Policy::read(&THREE, 3)?;
+    let contract = policy.contract(2).ok_or("no contract")?;
     assert!(rt; contract.view() == [1, 2].as_slice());
     assert!(rt; contract.writes() == 2 && contract.sees(1) && !contract.sees(9));
     assert!(rt; policy.contract(3).is_none());

@@ -94,8 +94,8 @@ const CASES: [Case; 9] = [
 fn refuses_each_fault(rt: HostRuntime) -> Result<(), Fail> {
     for case in &CASES {
         let mut bytes = POLICY;
-        if case.place < bytes.len() {
-            bytes[case.place] = case.byte;
+        if let Some(byte) = bytes.get_mut(case.place) {
+            *byte = case.byte;
         }
         let played = trace::play(rt.alloc(), &bytes)?;
         assert!(rt; played.text.as_str() == "");

@@ -4,6 +4,4 @@
 #[cfg(test)]
 mod stores;
 #[cfg(test)]
-mod three;
-#[cfg(test)]
 mod worked;

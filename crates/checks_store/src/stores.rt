@@ -1,5 +1,5 @@
 // The store's calls on the memory of three users: refusals in their order, and both sides of every bound.
-use super::three::THREE;
+use checks::THREE;
 use policy::{Policy, Refusal};
 use request::Request;
 use rows::{KeyRange, Row};
@@ -29,29 +29,15 @@ fn copy(user: usize, compartment: usize) -> Request {
 
 // Why the request is refused, if it is.
 fn refused(memory: &mut [u64], request: Request) -> Option<Refusal> {
-    let policy = match Policy::read(&THREE, 64) {
-        Ok(policy) => policy,
-        Err(refusal) => return Some(refusal),
-    };
-    store::serve(&policy, memory, &mut [0; 48], request).err()
+    Policy::read(&THREE, 64)
+        .and_then(|policy| store::serve(&policy, memory, &mut [0; 48], request))
+        .err()
 }
 
 fn refused_opening(memory: &mut [u64]) -> Option<Refusal> {
-    let policy = match Policy::read(&THREE, 64) {
-        Ok(policy) => policy,
-        Err(refusal) => return Some(refusal),
-    };
-    store::open(&policy, memory).err()
-}
-
-fn set(memory: &mut [u64], place: usize, number: u64) {
-    if let Some(slot) = memory.get_mut(place) {
-        *slot = number;
-    }
-}
-
-fn holds(memory: &[u64], place: usize, number: u64) -> bool {
-    memory.get(place) == Some(&number)
+    Policy::read(&THREE, 64)
+        .and_then(|policy| store::open(&policy, memory))
+        .err()
 }
 
 #[test]
@@ -62,49 +48,46 @@ fn opens_memory(rt: HostRuntime) {
 
 #[test]
 fn refuses_in_words(rt: HostRuntime) {
-    let mut numbers = [0; 598];
-    let memory = &mut numbers[..];
-    assert!(rt; refused(memory, write(2, 1)) == None);
-    assert!(rt; refused(memory, write(2, 2)) == None);
-    assert!(rt; refused(memory, write(2, 3)) == Some(Refusal::NoRoom { capacity: 2 }));
-    assert!(rt; refused(memory, write(2, 2)) == None);
-    assert!(rt; refused(memory, delete(2, 9)) == Some(Refusal::NoRow { key: 9 }));
-    assert!(rt; refused(memory, copy(2, 0)) == Some(Refusal::NoFlow { compartment: 0 }));
-    assert!(rt; refused(memory, copy(3, 1)) == Some(Refusal::NoFlow { compartment: 1 }));
-    assert!(rt; refused(memory, write(3, 1)) == Some(Refusal::NoUser { user: 3 }));
-    assert!(rt; holds(memory, 16, 3));
-    assert!(rt; holds(memory, 17, 2));
+    let mut memory = [0; 598];
+    assert!(rt; refused(&mut memory, write(2, 1)) == None);
+    assert!(rt; refused(&mut memory, write(2, 2)) == None);
+    assert!(rt; refused(&mut memory, write(2, 3)) == Some(Refusal::NoRoom { capacity: 2 }));
+    assert!(rt; refused(&mut memory, write(2, 2)) == None);
+    assert!(rt; refused(&mut memory, delete(2, 9)) == Some(Refusal::NoRow { key: 9 }));
+    assert!(rt; refused(&mut memory, copy(2, 0)) == Some(Refusal::NoFlow { compartment: 0 }));
+    assert!(rt; refused(&mut memory, copy(3, 1)) == Some(Refusal::NoFlow { compartment: 1 }));
+    assert!(rt; refused(&mut memory, write(3, 1)) == Some(Refusal::NoUser { user: 3 }));
+    assert!(rt; memory[16] == 3);
+    assert!(rt; memory[17] == 2);
 }
 
 #[test]
 fn stops_at_the_last_version(rt: HostRuntime) {
-    let mut numbers = [0; 598];
-    let memory = &mut numbers[..];
-    set(memory, 8, LIMIT - 2);
-    assert!(rt; refused(memory, write(1, 5)) == None);
-    assert!(rt; holds(memory, 8, LIMIT - 1));
-    assert!(rt; refused(memory, write(1, 6)) == Some(Refusal::LastVersion { compartment: 1 }));
-    assert!(rt; refused(memory, copy(1, 1)) == Some(Refusal::LastVersion { compartment: 1 }));
-    assert!(rt; refused(memory, delete(1, 6)) == Some(Refusal::NoRow { key: 6 }));
-    assert!(rt; holds(memory, 8, LIMIT - 1));
-    assert!(rt; holds(memory, 9, 1));
-    set(memory, 8, LIMIT);
-    assert!(rt; refused(memory, write(1, 6)) == Some(Refusal::OutOfBounds { place: 8 }));
+    let mut memory = [0; 598];
+    memory[8] = LIMIT - 2;
+    assert!(rt; refused(&mut memory, write(1, 5)) == None);
+    assert!(rt; memory[8] == LIMIT - 1);
+    assert!(rt; refused(&mut memory, write(1, 6)) == Some(Refusal::LastVersion { compartment: 1 }));
+    assert!(rt; refused(&mut memory, copy(1, 1)) == Some(Refusal::LastVersion { compartment: 1 }));
+    assert!(rt; refused(&mut memory, delete(1, 6)) == Some(Refusal::NoRow { key: 6 }));
+    assert!(rt; memory[8] == LIMIT - 1);
+    assert!(rt; memory[9] == 1);
+    memory[8] = LIMIT;
+    assert!(rt; refused(&mut memory, write(1, 6)) == Some(Refusal::OutOfBounds { place: 8 }));
 }
 
 #[test]
 fn finds_damage_where_it_looks(rt: HostRuntime) {
-    let mut numbers = [0; 598];
-    let memory = &mut numbers[..];
-    set(memory, 1, 4);
-    assert!(rt; refused(memory, write(1, 5)) == None);
-    assert!(rt; refused(memory, write(0, 5)) == Some(Refusal::OutOfBounds { place: 1 }));
-    set(memory, 9, 4);
-    assert!(rt; refused(memory, copy(0, 1)) == Some(Refusal::OutOfBounds { place: 1 }));
-    assert!(rt; refused(memory, copy(2, 1)) == Some(Refusal::OutOfBounds { place: 9 }));
-    set(memory, 9, 3);
-    set(memory, 12, 6);
-    set(memory, 14, 7);
-    assert!(rt; refused(memory, write(1, 5)) == None);
-    assert!(rt; refused(memory, write(1, 8)) == Some(Refusal::NoRoom { capacity: 3 }));
+    let mut memory = [0; 598];
+    memory[1] = 4;
+    assert!(rt; refused(&mut memory, write(1, 5)) == None);
+    assert!(rt; refused(&mut memory, write(0, 5)) == Some(Refusal::OutOfBounds { place: 1 }));
+    memory[9] = 4;
+    assert!(rt; refused(&mut memory, copy(0, 1)) == Some(Refusal::OutOfBounds { place: 1 }));
+    assert!(rt; refused(&mut memory, copy(2, 1)) == Some(Refusal::OutOfBounds { place: 9 }));
+    memory[9] = 3;
+    memory[12] = 6;
+    memory[14] = 7;
+    assert!(rt; refused(&mut memory, write(1, 5)) == None);
+    assert!(rt; refused(&mut memory, write(1, 8)) == Some(Refusal::NoRoom { capacity: 3 }));
 }

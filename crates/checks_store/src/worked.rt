@@ -49,8 +49,7 @@ fn expected(cut: usize) -> (usize, Option<Refusal>) {
         return (0, Some(Refusal::OutOfBounds { place }));
     }
     let mut left = cut - POLICY;
-    let mut told = 0usize;
-    for (single, wide) in REQUESTS {
+    for (told, (single, wide)) in REQUESTS.into_iter().enumerate() {
         let size = wide.saturating_mul(4).saturating_add(single);
         if left == 0 {
             return (told, None);
@@ -63,27 +62,16 @@ fn expected(cut: usize) -> (usize, Option<Refusal>) {
             return (told, Some(Refusal::NoRequest { place }));
         }
         left = left.saturating_sub(size);
-        told = told.saturating_add(1);
     }
-    (told, None)
-}
-
-fn lines(text: &str) -> usize {
-    let mut lines = 0usize;
-    for byte in text.as_bytes() {
-        if *byte == 10 {
-            lines = lines.saturating_add(1);
-        }
-    }
-    lines
+    (REQUESTS.len(), None)
 }
 
 #[test]
 fn cut_at_each_byte(rt: HostRuntime) -> Result<(), Fail> {
-    for cut in 0..WORKED.len() + 1 {
+    for cut in 0..=WORKED.len() {
         let played = playback::play(rt.alloc(), &WORKED[0..cut])?;
         let (told, refused) = expected(cut);
-        assert_eq!(rt; lines(played.text.as_str()), told);
+        assert_eq!(rt; played.text.as_str().lines().count(), told);
         assert!(rt; played.refused == refused);
     }
     Ok(())
@@ -111,29 +99,18 @@ fn plays_the_worked_example(rt: HostRuntime) -> Result<(), Fail> {
 // User 1 is told their six lines, and of user 0's compartment, the first in memory, nothing was changed.
 #[test]
 fn plays_for_one(rt: HostRuntime) -> Result<(), Fail> {
-    let mut numbers = [7; 600];
-    let memory = &mut numbers[..];
-    let played = playback::play_for(rt.alloc(), memory, 1, &WORKED)?;
+    let mut memory = [7; 600];
+    let played = playback::play_for(rt.alloc(), &mut memory, 1, &WORKED)?;
     assert!(rt;
         played.text.as_str()
             == "1: done\n1: 1 row 10 looked at 1\n1: done\n1: not allowed\n1: 2 rows 11 looked at 2\n1: no row\n"
     );
     assert!(rt; played.refused == None);
-    assert!(rt; holds(memory, 0, &[0, 0, 0, 0, 0, 0, 0, 0]));
-    assert!(rt; holds(memory, 8, &[2, 2, 5, 10, 7, 1]));
-    assert!(rt; holds(memory, 16, &[0, 0, 0, 0, 0, 0]));
-    assert!(rt; holds(memory, 598, &[7, 7]));
+    assert!(rt; memory[0..8] == [0, 0, 0, 0, 0, 0, 0, 0]);
+    assert!(rt; memory[8..14] == [2, 2, 5, 10, 7, 1]);
+    assert!(rt; memory[16..22] == [0, 0, 0, 0, 0, 0]);
+    assert!(rt; memory[598..600] == [7, 7]);
     Ok(())
-}
-
-// Do these numbers stand there?
-fn holds(memory: &[u64], at: usize, numbers: &[u64]) -> bool {
-    for (i, number) in numbers.iter().enumerate() {
-        if memory.get(at.saturating_add(i)) != Some(number) {
-            return false;
-        }
-    }
-    true
 }
 
 #[test]

@@ -1,5 +1,7 @@
 -- What each call makes of memory, for every content, of rows that rise or not.
 use Rattle.std.specs.Prelude.{ℕ, zero, suc, ◌+◌, ◌-◌, ◌*◌, ◌/◌, ◌≤◌, Bool, cond, ◌&&◌, ◌||◌, List, length, take, drop, Some, None, Option, ◌==◌, nat_le, nat_lt, slice_index, slice_set}
+use Rattle.std.specs.declared.cmp.Ordering.{Ordering}
+use Rattle.std.specs.declared.cmp.Ordering.TheVariants.{Less, Equal, Greater}
 use Rattle.std.proofs.Math.Seq.{paste}
 use Rattle.rows.specs.Halving.{rows_of, position}
 use Rattle.rows.specs.Numbers.{merged, range_part}
@@ -61,6 +63,10 @@ keeps c m = nat_lt 0 c.count && nat_lt (slice_index m (last_at c.source c.copied
 -- it has the same key
 abbrev pub replaces : Copying → List ℕ → Bool
 replaces c m = nat_lt 0 c.count && slice_index m (last_at c.source c.copied) == slice_index m (last_at c.destination c.count)
+
+-- how the two compare: as less where no row of the destination is left
+abbrev pub compared : Copying → List ℕ → Ordering
+compared c m = cond (keeps c m) Greater (cond (replaces c m) Equal Less)
 
 -- the row at one place is written to another
 abbrev pub moved : ℕ → ℕ → List ℕ → List ℕ

@@ -1,14 +1,16 @@
 // Copies rows of one part of memory into another part of it, by merging from behind.
 #![tactic(auto)]
 
-ghost use Rattle.std.specs.Prelude.{◌≡◌, ◌+◌, ◌*◌, ◌/◌, ◌^◌, ◌<◌, ◌≤◌, true, length, drop, IfSome};
-ghost use Rattle.merge.specs.Numbers.{new_keys, lies_within, plan, planned, fits, Left, keeps, replaces, moved, stepped, written, merging, merged_into};
+ghost use Rattle.std.specs.Prelude.{◌≡◌, ◌+◌, ◌*◌, ◌/◌, ◌^◌, ◌<◌, ◌≤◌, true, false, length, IfSome, MatchOption};
+ghost use Rattle.merge.specs.Numbers.{new_keys, lies_within, numbers, plan, planned, fits, Left, compared, moved, stepped, written, merging, merged_into};
 
 use rows::{KeyRange, position, range, shared_keys};
+use std::cmp::Ordering;
 
 pub mod laws;
 
 // Rows in memory: where they begin, and how many they are.
+// By place and number, not as a slice: one lent memory holds the rows that are read and those that are written.
 #[derive(Clone, Copy, PartialEq, Eq, Debug)]
 pub struct Part {
     pub start: usize,
@@ -27,6 +29,18 @@ pub struct Copying {
     pub total: usize,
 }
 
+impl Part {
+    // The rows, where memory holds them.
+    fn rows(self, memory: &[u64]) -> Option<&[u64]>
+        ensures { MatchOption result (lies_within self.start self.count (length memory.now) ≡ false) (λ rows. (lies_within self.start self.count (length memory.now) ≡ true) × (rows.now ≡ numbers self memory.now)) }
+    {
+        if !lies_within(self.start, self.count, memory.len()) {
+            return None;
+        }
+        Some(&memory[self.start..self.start + 2 * self.count])
+    }
+}
+
 // How many rows of `source` have keys that `destination` lacks, in one pass over both.
 pub fn new_keys(source: &[u64], destination: &[u64]) -> usize
     ensures value { result ≡ new_keys source.now destination.now }
@@ -40,17 +54,9 @@ pub fn plan(memory: &[u64], source: Part, destination: Part, range: KeyRange) ->
     ensures value { result ≡ plan source destination range memory.now }
     ensures within { IfSome result (λ c. (c.count ≤ destination.count) × (c.total ≤ c.count + source.count) × (2 * destination.count ≤ length memory.now) × (2 * source.count ≤ length memory.now)) }
 {
-    if !lies_within(source.start, source.count, memory.len()) {
-        return None;
-    }
-    if !lies_within(destination.start, destination.count, memory.len()) {
-        return None;
-    }
-    let start = source.start;
-    let place = destination.start;
-    let from = &memory[start..start + 2 * source.count];
-    let into = &memory[place..place + 2 * destination.count];
-    Some(planned(from, start, into, place, range))
+    let from = source.rows(memory)?;
+    let into = destination.rows(memory)?;
+    Some(planned(from, source.start, into, destination.start, range))
 }
 
 // The same of the rows themselves, with where each part begins.
@@ -62,9 +68,10 @@ fn planned(from: &[u64], source: usize, into: &[u64], destination: usize, keys: 
 {
     let found = range(from, keys);
     let kept = range(into, keys);
-    let place = position(into, keys.from as u64);
+    let first = u64::from(keys.from);
+    let place = position(into, first);
     Copying {
-        source: source + 2 * position(from, keys.from as u64),
+        source: source + 2 * position(from, first),
         copied: found.len() / 2,
         destination: destination + 2 * place,
         count: kept.len() / 2,
@@ -117,63 +124,47 @@ fn merge(memory: &mut [u64], copying: Copying)
 {
     let mut left = copying;
     while left.copied > 0 && left.total > 0 {
-        left = turn(memory, left);
+        left.turn(memory);
     }
 }
 
-// Writes the greater of the last rows left to the last place left, the one to copy where keys are equal; says what is left then.
-fn turn(memory: &mut [u64], left: Copying) -> Copying
-    requires within { Left left (length memory.old) }
-    requires rows { 0 < left.copied }
-    requires places { 0 < left.total }
-    ensures next { result ≡ stepped left memory.old }
-    ensures after { memory.new ≡ written left memory.old }
-{
-    let to = left.destination + 2 * (left.total - 1);
-    if keeps(memory, left) {
-        move_row(memory, left.destination + 2 * (left.count - 1), to);
-        return Copying {
-            count: left.count - 1,
-            total: left.total - 1,
-            ..left
-        };
+impl Copying {
+    // Writes the greater of the last rows left to the last place left, the one to copy where keys are equal.
+    fn turn(&mut self, memory: &mut [u64])
+        requires within { Left self.old (length memory.old) }
+        requires rows { 0 < self.old.copied }
+        requires places { 0 < self.old.total }
+        ensures next { self.new ≡ stepped self.old memory.old }
+        ensures after { memory.new ≡ written self.old memory.old }
+    {
+        self.total -= 1;
+        let to = self.destination + 2 * self.total;
+        match self.compare(memory) {
+            Ordering::Greater => {
+                self.count -= 1;
+                move_row(memory, self.destination + 2 * self.count, to);
+                return;
+            }
+            Ordering::Equal => self.count -= 1,
+            Ordering::Less => {}
+        }
+        self.copied -= 1;
+        move_row(memory, self.source + 2 * self.copied, to);
     }
-    let count = if replaces(memory, left) {
-        left.count - 1
-    } else {
-        left.count
-    };
-    move_row(memory, left.source + 2 * (left.copied - 1), to);
-    Copying {
-        copied: left.copied - 1,
-        count,
-        total: left.total - 1,
-        ..left
+
+    // How the key of the last row left of the destination compares with that of the last one to copy: as less where none is left.
+    fn compare(&self, memory: &[u64]) -> Ordering
+        requires source { self.now.source + 2 * self.now.copied ≤ length memory.now }
+        requires destination { self.now.destination + 2 * self.now.count ≤ length memory.now }
+        requires rows { 0 < self.now.copied }
+        ensures { result ≡ compared self.now memory.now }
+    {
+        let key = memory[self.source + 2 * (self.copied - 1)];
+        match self.count.checked_sub(1) {
+            Some(last) => memory[self.destination + 2 * last].cmp(&key),
+            None => Ordering::Less,
+        }
     }
-}
-
-// Whether the last row left of the destination is greater than the last one to copy.
-fn keeps(memory: &[u64], left: Copying) -> bool
-    requires within { Left left (length memory.now) }
-    requires rows { 0 < left.copied }
-    ensures value { result ≡ keeps left memory.now }
-    ensures some { result ≡ true → 0 < left.count }
-{
-    left.count > 0
-        && memory[left.source + 2 * (left.copied - 1)]
-            < memory[left.destination + 2 * (left.count - 1)]
-}
-
-// Whether it has the same key.
-fn replaces(memory: &[u64], left: Copying) -> bool
-    requires within { Left left (length memory.now) }
-    requires rows { 0 < left.copied }
-    ensures value { result ≡ replaces left memory.now }
-    ensures some { result ≡ true → 0 < left.count }
-{
-    left.count > 0
-        && memory[left.source + 2 * (left.copied - 1)]
-            == memory[left.destination + 2 * (left.count - 1)]
 }
 
 // Writes the row that stands at one place to another.

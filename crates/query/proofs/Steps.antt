@@ -1,19 +1,14 @@
 -- One part more: what a turn of each loop does to lists.
-use Rattle.std.proofs.Common.{◌≡◌, ℕ, ◌+◌, ◌-◌, ◌/◌, ◌<◌, ◌≤◌, true, leb, List, [], ◌∷◌, ◌++◌, map, length, get_or, take, drop, set, replicate, Some, sym, refl, ap, ◌∙◌, arith, length-drop, Bor}
+use Rattle.std.proofs.Common.{◌≡◌, ℕ, ◌+◌, ◌/◌, ◌<◌, List, [], ◌∷◌, ◌++◌, map, length, get_or, take, drop, set, sym, refl, ap, ◌∙◌, arith, Bor}
 use borrow.Rule.Slice.PartMut.{put_mid}
-use Rattle.std.proofs.lemmas.List.{drop_more, drop-map, drop-drop, take-map, map_more, take_at, drop_at, set_at, append_assoc, append-nil, length-append, length-map, length-take-le, take_all, drop_all}
-use Rattle.std.proofs.lemmas.Bool.{and_parts, leb-true}
+use Rattle.std.proofs.lemmas.List.{drop_more, drop-map, drop-drop, take-map, map_more, take_at, drop_at, set_at, append_assoc, append-nil, length-append, length-map, length-take-le}
+use Rattle.std.proofs.lemmas.Grind.{flat_map-append}
 use Rattle.rows.specs.declared.KeyRange.{KeyRange}
 use Rattle.rows.specs.Numbers.{range_part}
-use Rattle.query.specs.Numbers.{count, counts, count_in, cut, lengths, fits, written, unseen, shared_outcome, shared_row}
+use Rattle.query.specs.Numbers.{count, counts, count_in, cut, lengths}
 
 abbrev pub nothing : Bor (List ℕ)
 nothing = record { ref_ptr = (0, 0); now = [] }
-
-pub fits_gives : (ps : List (List ℕ)) (long : ℕ) → fits ps long ≡ true → (length ps ≤ 16) × (32 + lengths ps ≤ long)
-fits_gives ps long e =
-    let s = and_parts (leb (length ps) 16) (leb (32 + lengths ps) long) e in
-    (leb-true _ _ s.0, leb-true _ _ s.1)
 
 -- the part at a place, and those behind it
 pub parts_more : (xs : List (Bor (List ℕ))) (i : ℕ) → i < length xs → drop i (map (λ x. x.now) xs) ≡ (get_or xs i nothing).now ∷ drop (i + 1) (map (λ x. x.now) xs)
@@ -35,8 +30,7 @@ module _ (range : KeyRange) where
   count_push (q ∷ ps) p = let i = count_push ps p in omega arith
 
   pub cut_push : (ps : List (List ℕ)) (p : List ℕ) → cut range (ps ++ (p ∷ [])) ≡ cut range ps ++ range_part range p
-  cut_push [] p = simp append-nil
-  cut_push (q ∷ ps) p = rw (cut_push ps p) (sym (append_assoc (range_part range q) (cut range ps) (range_part range p)))
+  cut_push ps p = flat_map-append (range_part range) ps (p ∷ []) ∙ simp append-nil
 
 -- a number written behind some others
 pub head_push : (hs zs : List ℕ) (i n : ℕ) → length hs ≡ i → i < length zs → set (hs ++ drop i zs) i n ≡ (hs ++ (n ∷ [])) ++ drop (i + 1) zs
@@ -71,40 +65,3 @@ module _ (range : KeyRange) (xs : List (Bor (List ℕ))) (i : ℕ) (q : List ℕ
 
   pub count_turn : (n : ℕ) → n ≡ count_in range (take i (map (λ x. x.now) xs)) → n + length q / 2 ≡ count_in range (take (i + 1) (map (λ x. x.now) xs))
   count_turn n e = rw (e, v, parts_push xs i h) (sym (count_push range (take i (map (λ x. x.now) xs)) (get_or xs i nothing).now))
-
--- all parts were taken
-pub all_taken : (xs : List (Bor (List ℕ))) (i : ℕ) → length xs ≤ i → take i (map (λ x. x.now) xs) ≡ map (λ x. x.now) xs
-all_taken xs i h = take_all i (map (λ x. x.now) xs) (simp length-map h)
-
--- the header's place in a row of which the rest was written
-pub head_long : (row body : List ℕ) → 32 ≤ length row → length (take 32 (put_mid 32 (length row - 32) row body)) ≡ 32
-head_long row body h =
-    let l = length-take-le 32 row h in
-    rw (take_at (take 32 row) (body ++ drop (length row - 32) (drop 32 row)) 32 l) l
-
--- a header and what stands behind it, both written
-pub both_written : (row hs body ns rs : List ℕ) → 32 ≤ length row → hs ≡ ns ++ drop (length ns) (replicate 32 0)
-    → body ≡ rs ++ drop (length rs) (take (length row - 32) (drop 32 row)) → put_mid 0 32 (put_mid 32 (length row - 32) row body) hs ≡ written ns rs row
-both_written row hs body ns rs h e f =
-    rw (
-      drop_at (take 32 row) (body ++ drop (length row - 32) (drop 32 row)) 32 (length-take-le 32 row h),
-      drop_all (length row - 32) (drop 32 row) (simp length-drop (omega arith)),
-      append-nil body,
-      e,
-      f,
-      take_all (length row - 32) (drop 32 row) (simp length-drop (omega arith)),
-    ) refl
-
--- two parts, or not
-pub two : (xs : List (Bor (List ℕ))) → length xs ≡ 2 → map (λ x. x.now) xs ≡ (get_or xs 0 nothing).now ∷ (get_or xs 1 nothing).now ∷ []
-two [] e = absurd (omega arith)
-two (x ∷ []) e = absurd (omega arith)
-two (x ∷ y ∷ []) e = refl
-two (x ∷ y ∷ z ∷ xs) e = absurd (omega arith)
-
-pub not_two : (range : KeyRange) (xs : List (Bor (List ℕ))) (row : List ℕ) (long : ℕ) → (length xs ≡ 2 → ⊥)
-    → (Some unseen ≡ shared_outcome range (map (λ x. x.now) xs) long) × (row ≡ shared_row range (map (λ x. x.now) xs) row)
-not_two range [] row long n = (refl, refl)
-not_two range (x ∷ []) row long n = (refl, refl)
-not_two range (x ∷ y ∷ []) row long n = absurd (n refl)
-not_two range (x ∷ y ∷ z ∷ xs) row long n = (refl, refl)

@@ -4,8 +4,8 @@ ghost use Rattle.policy.specs.Access.{rules_of};
 ghost use Rattle.policy.specs.Views.{view_of};
 ghost use Rattle.query.specs.Looks.{room, needed_for};
 
-use crate::Query;
 use crate::looked::sees_both;
+use crate::{HEADER, Query};
 use policy::{Contract, Policy};
 
 // By the policy alone. None where shared names a compartment that the user does not see: the row is not looked at then.
@@ -13,9 +13,11 @@ pub fn needed(policy: &Policy, contract: &Contract, query: Query) -> Option<usiz
     ensures { result ≡ needed_for (rules_of policy.now).capacity (view_of contract.now) query }
 {
     match query {
-        Query::Rows { .. } | Query::Total { .. } => Some(32 + 2 * room(policy, contract.view())),
+        Query::Rows { .. } | Query::Total { .. } => Some(
+            HEADER + 2 * room(policy, contract.view()),
+        ),
         Query::Shared { a, b, .. } => {
-            sees_both(contract, a, b).then(|| 32 + 2 * capacity(policy, a as u64))
+            sees_both(contract, a, b).then(|| HEADER + 2 * capacity(policy, a as u64))
         }
     }
 }

@@ -1,6 +1,7 @@
 -- A request is read as it is written, and what is read is what stands there.
-use Rattle.std.proofs.Common.{◌≡◌, ℕ, ◌+◌, ◌^◌, ◌<◌, List, ◌∷◌, length, get_or, drop, Some, Ok, Err, Result, refl, subst, add-one, arith, drop-cons}
+use Rattle.std.proofs.Common.{◌≡◌, ℕ, ◌+◌, ◌^◌, ◌<◌, List, ◌∷◌, drop, Some, Ok, Err, Result, refl, subst, arith}
 use Rattle.std.proofs.lemmas.Bool.Decides.{nat_tests}
+use Rattle.std.proofs.lemmas.List.{drop_more}
 use Rattle.rows.specs.declared.KeyRange.{KeyRange}
 use Rattle.policy.specs.declared.refusal.Refusal.{Refusal}
 use Rattle.query.specs.declared.Query.{Query}
@@ -30,26 +31,22 @@ passes P (Err e) f b h go = absurd cc
 ok_same : {A : Type 0} (a b : A) → ◌≡◌ {A = Result A Refusal} (Ok a) (Ok b) → a ≡ b
 ok_same a b h = cc
 
--- the number there is the next one of the list
-front : (xs : List ℕ) (i : ℕ) → i < length xs → drop i xs ≡ get_or xs i 0 ∷ drop (i + 1) xs
-front xs i h = rw (add-one, drop-cons xs i 0)
-
 below_reads : (bound : ℕ) (xs : List ℕ) (i v : ℕ) → below bound xs i ≡ Ok v → (v < bound) × (drop i xs ≡ v ∷ drop (i + 1) xs)
-below_reads bound xs i v h = let f = front xs i in (grind (arith, nat_tests), grind (arith, nat_tests))
+below_reads bound xs i v h = let f = drop_more xs i 0 in (grind (arith, nat_tests), grind (arith, nat_tests))
 
 range_reads : (xs : List ℕ) (i : ℕ) (range : KeyRange) → range_at xs i ≡ Ok range →
     (range.from < 2 ^ 32) × (range.to < 2 ^ 32) × (drop i xs ≡ range.from ∷ range.to ∷ drop (i + 1 + 1) xs)
 range_reads xs i range h =
-    let f = front xs i in
-    let g = front xs (i + 1) in
+    let f = drop_more xs i 0 in
+    let g = drop_more xs (i + 1) 0 in
     (grind (arith, nat_tests), grind (arith, nat_tests), grind (arith, nat_tests))
 
 -- the kind there has its number
 kind_reads : (xs : List ℕ) (n : ℕ) (k : Kind) → n < 4 → kind_numbered n ≡ Some k → kind_at xs ≡ Ok k → drop 0 xs ≡ n ∷ drop 1 xs
-kind_reads xs n k h e g = let f = front xs 0 in grind (arith, nat_tests)
+kind_reads xs n k h e g = let f = drop_more xs 0 0 in grind (arith, nat_tests)
 
 query_kind_reads : (xs : List ℕ) (n : ℕ) (k : QueryKind) → n < 3 → query_numbered n ≡ Some k → query_kind_at xs ≡ Ok k → drop 2 xs ≡ n ∷ drop 3 xs
-query_kind_reads xs n k h e g = let f = front xs 2 in grind (arith, nat_tests)
+query_kind_reads xs n k h e g = let f = drop_more xs 2 0 in grind (arith, nat_tests)
 
 -- a number is handed on, and a range
 takes : {B : Type 0} (P : Type 0) (bound : ℕ) (xs : List ℕ) (i : ℕ) (f : ℕ → Result B Refusal) (b : B) → then (below bound xs i) f ≡ Ok b →

@@ -1,11 +1,11 @@
 // How often each kind of thing happened.
-use crate::event::{EVENTS, Event, NAMES};
+use crate::event::{ALL, EVENTS, Event};
 use crate::mix::Call;
+use crate::side::Response;
 use crate::trace::Trace;
-use policy::{Policy, Refusal};
+use policy::Policy;
 use query::Query;
 use request::Request;
-use rows::KeyRange;
 use std::fmt;
 use store::Reply;
 
@@ -33,10 +33,6 @@ impl Counts {
         }
     }
 
-    fn of(&self, event: Event) -> u64 {
-        self.counts.get(event as usize).copied().unwrap_or(0)
-    }
-
     pub(crate) fn add_trace(&mut self, trace: &Trace) {
         self.add(Event::Trace);
         self.add_if(trace.users == 1, Event::OneUser);
@@ -58,7 +54,7 @@ impl Counts {
         &mut self,
         policy: &Policy,
         call: Call,
-        response: Result<Reply, Refusal>,
+        response: Response,
         row: &[u64],
     ) {
         self.add(Event::Request);
@@ -67,30 +63,23 @@ impl Counts {
             self.add_if(row.key == 0, Event::LowestKey);
             self.add_if(row.key == u32::MAX, Event::HighestKey);
         }
-        if let Some(range) = range_of(call.request) {
-            self.add_if(range.from > range.to, Event::Backward);
-        }
-    }
-}
-
-// The key range of a copy or a query.
-fn range_of(request: Request) -> Option<KeyRange> {
-    match request {
-        Request::Copy { range, .. } => Some(range),
-        Request::Query { query, .. } => match query {
-            Query::Rows { range } => Some(range),
-            Query::Total { range } => Some(range),
-            Query::Shared { range, .. } => Some(range),
-        },
-        _ => None,
+        let range = match call.request {
+            Request::Copy { range, .. } => range,
+            Request::Query { query, .. } => match query {
+                Query::Rows { range } | Query::Total { range } | Query::Shared { range, .. } => {
+                    range
+                }
+            },
+            Request::Write { .. } | Request::Delete { .. } => return,
+        };
+        self.add_if(range.from > range.to, Event::Backward);
     }
 }
 
 impl fmt::Display for Counts {
     fn fmt<W: fmt::Write>(&self, f: &mut fmt::Formatter<W>) -> fmt::Result {
-        for (event, name) in NAMES {
-            let count = self.of(event);
-            writeln!(f, "{name} {count}")?;
+        for (event, count) in ALL.iter().zip(&self.counts) {
+            writeln!(f, "{event} {count}")?;
         }
         Ok(())
     }

@@ -7,7 +7,6 @@ mod mix;
 mod random;
 mod recent;
 mod relevant;
-mod same;
 mod shape;
 mod side;
 mod stage;
@@ -17,19 +16,15 @@ mod trace;
 use anyhow::anyhow;
 use counts::Counts;
 use random::Random;
-use stage::Stage;
+use stage::{Difference, Stage};
 use trace::Trace;
 
 const SEED: u64 = 0x9e37_79b9_7f4a_7c15;
 
 const TRACES: u32 = 10_000;
 
-fn main(rt: HostRuntime) -> anyhow::Result<()> {
-    run(&rt)
-}
-
 // Ends at the first difference. The counts in the file `stdout` were read off a run; what is asked of a run is that there is no difference.
-fn run(rt: &HostRuntime) -> anyhow::Result<()> {
+fn main(rt: HostRuntime) -> anyhow::Result<()> {
     let heap = rt.alloc();
     let mut random = Random::new(SEED);
     let mut stage = Stage::new(heap)?;
@@ -37,9 +32,7 @@ fn run(rt: &HostRuntime) -> anyhow::Result<()> {
     for number in 1..=TRACES {
         let trace = Trace::random(&mut random, heap)?;
         counts.add_trace(&trace);
-        if let Some(difference) = stage.play(&trace, &mut counts)? {
-            let user = difference.user;
-            let request = difference.request;
+        if let Some(Difference { user, request }) = stage.play(&trace, &mut counts)? {
             println!(rt; "first difference: trace {number}, user {user}, request {request}")?;
             return Err(anyhow!("a user was told of what is not relevant to them"));
         }

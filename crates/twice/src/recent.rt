@@ -1,6 +1,5 @@
 // The queries that a user was answered since what they see was changed.
-use crate::same::same_query;
-use policy::Refusal;
+use crate::side::Response;
 use query::Query;
 use request::Request;
 use std::alloc::{AllocError, Global};
@@ -19,8 +18,8 @@ impl Recent {
     }
 
     // What the user sees was changed, if this was done.
-    pub(crate) fn changed(&mut self, response: Result<Reply, Refusal>) {
-        if matches!(response, Ok(Reply::Done)) {
+    pub(crate) fn changed(&mut self, response: Response) {
+        if response == Ok(Reply::Done) {
             self.forget();
         }
     }
@@ -33,7 +32,7 @@ impl Recent {
     pub(crate) fn fell_out(
         &mut self,
         request: Request,
-        response: Result<Reply, Refusal>,
+        response: Response,
     ) -> Result<bool, AllocError> {
         let Request::Query { query, .. } = request else {
             return Ok(false);
@@ -41,19 +40,10 @@ impl Recent {
         let Ok(Reply::Answered { outcome }) = response else {
             return Ok(false);
         };
-        if self.holds(query) {
+        if self.queries.contains(&query) {
             return Ok(outcome.examined > 0);
         }
         self.queries.push(query)?;
         Ok(false)
-    }
-
-    fn holds(&self, query: Query) -> bool {
-        for before in self.queries.iter() {
-            if same_query(*before, query) {
-                return true;
-            }
-        }
-        false
     }
 }

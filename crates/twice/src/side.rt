@@ -8,6 +8,9 @@ use store::Reply;
 // As many numbers as 16 compartments of 64 rows and the caches of 32 users take.
 const MEMORY: usize = 8224;
 
+// What a call tells.
+pub(crate) type Response = Result<Reply, Refusal>;
+
 #[derive(Drop)]
 pub(crate) struct Side {
     memory: Vec<u64>,
@@ -28,38 +31,29 @@ impl Side {
     // Opens the store anew, over what an earlier trace left in memory.
     pub(crate) fn open(&mut self, policy: &Policy) -> anyhow::Result<()> {
         self.own.fill(7);
-        match store::open(policy, self.memory.as_mut_slice()) {
-            Ok(()) => Ok(()),
-            Err(_) => Err(anyhow!("the store was not opened")),
-        }
+        store::open(policy, self.memory.as_mut_slice()).map_err(|_| anyhow!(
+            "the store was not opened"
+        ))
     }
 
     // A call of the viewer.
-    pub(crate) fn serve_own(&mut self, policy: &Policy, call: Call) -> Result<Reply, Refusal> {
-        let row = self.own.as_mut_slice();
-        let length = call.length.min(row.len());
-        store::serve(
-            policy,
-            self.memory.as_mut_slice(),
-            &mut row[0..length],
-            call.request,
-        )
+    pub(crate) fn serve_own(&mut self, policy: &Policy, call: Call) -> Response {
+        serve(policy, &mut self.memory, &mut self.own, call)
     }
 
     // A call of somebody else.
-    pub(crate) fn serve_other(&mut self, policy: &Policy, call: Call) -> Result<Reply, Refusal> {
-        let row = self.others.as_mut_slice();
-        let length = call.length.min(row.len());
-        store::serve(
-            policy,
-            self.memory.as_mut_slice(),
-            &mut row[0..length],
-            call.request,
-        )
+    pub(crate) fn serve_other(&mut self, policy: &Policy, call: Call) -> Response {
+        serve(policy, &mut self.memory, &mut self.others, call)
     }
 
     // What the viewer's answer row holds.
     pub(crate) fn row(&self) -> &[u64] {
         self.own.as_slice()
     }
+}
+
+// A call on this memory, that is lent as much of the row as it asks for.
+fn serve(policy: &Policy, memory: &mut [u64], row: &mut [u64], call: Call) -> Response {
+    let length = call.length.min(row.len());
+    store::serve(policy, memory, &mut row[..length], call.request)
 }

@@ -3,8 +3,7 @@ use crate::counts::Counts;
 use crate::event::Event;
 use crate::mix::Call;
 use crate::recent::Recent;
-use crate::relevant::{asker, relevant};
-use crate::same::same_response;
+use crate::relevant::relevant;
 use crate::side::Side;
 use crate::trace::Trace;
 use policy::Policy;
@@ -57,7 +56,7 @@ impl Stage {
         self.purged.open(&trace.policy)?;
         self.recent.forget();
         for (i, call) in trace.calls.iter().enumerate() {
-            if asker(call.request) != viewer {
+            if call.request.user() != viewer {
                 self.play_other(&trace.policy, viewer, *call, counts);
             } else if !self.play_own(&trace.policy, *call, counts)? {
                 return Ok(Some(i));
@@ -90,6 +89,6 @@ impl Stage {
         let fell_out = self.recent.fell_out(call.request, told)?;
         counts.add_if(fell_out, Event::FellOut);
         self.recent.changed(told);
-        Ok(same_response(told, purged) && self.whole.row() == self.purged.row())
+        Ok(told == purged && self.whole.row() == self.purged.row())
     }
 }

@@ -1,6 +1,6 @@
 // What comes of a request, by the name under which it is counted.
 use crate::event::Event;
-use crate::relevant::asker;
+use crate::side::Response;
 use policy::{Policy, Refusal};
 use query::{Answered, Outcome};
 use request::Request;
@@ -8,12 +8,7 @@ use store::Reply;
 
 impl Event {
     // What came of a request; of an answer of rows the lent row says whether there are any.
-    pub(crate) fn of(
-        policy: &Policy,
-        request: Request,
-        response: Result<Reply, Refusal>,
-        row: &[u64],
-    ) -> Event {
+    pub(crate) fn of(policy: &Policy, request: Request, response: Response, row: &[u64]) -> Event {
         match response {
             Ok(Reply::Done) => Event::of_done(policy, request),
             Err(refusal) => Event::of_refusal(policy, request, refusal),
@@ -45,17 +40,13 @@ impl Event {
         match refusal {
             Refusal::NoUser { .. } => Event::Absent,
             Refusal::NoFlow { compartment } => {
-                Event::of_refused_copy(policy, asker(request), compartment)
+                Event::of_refused_copy(policy, request.user(), compartment)
             }
-            Refusal::NoRoom { capacity } => {
-                if capacity == 64 {
-                    Event::NoRoomOfMost
-                } else if matches!(request, Request::Copy { .. }) {
-                    Event::NoRoomToCopy
-                } else {
-                    Event::NoRoomToWrite
-                }
+            Refusal::NoRoom { capacity: 64 } => Event::NoRoomOfMost,
+            Refusal::NoRoom { .. } if matches!(request, Request::Copy { .. }) => {
+                Event::NoRoomToCopy
             }
+            Refusal::NoRoom { .. } => Event::NoRoomToWrite,
             Refusal::NoRow { .. } => Event::NoRow,
             Refusal::ShortRow { .. } => Event::ShortRow,
             _ => Event::Unforeseen,
@@ -91,10 +82,5 @@ impl Event {
 
 // The header of the answer row counts no rows.
 fn no_rows(row: &[u64]) -> bool {
-    for count in row.iter().take(32) {
-        if *count > 0 {
-            return false;
-        }
-    }
-    true
+    row.iter().take(32).all(|count| *count == 0)
 }

@@ -1,6 +1,6 @@
 -- A request that is read from bytes is the one that is written there.
 use Rattle.std.proofs.Common.{◌≡◌, ℕ, zero, suc, ◌+◌, ◌*◌, ◌/◌, ◌%◌, ◌<◌, ◌≤◌, Bool, true, false, cond, ltb, List, [], ◌∷◌, ◌++◌, length, get_or, take, drop, Some, None, Ok, Err, Option, Result, sym, refl, ap, ◌∙◌, subst, append_assoc, append-nil, arith, length-append, length-drop, drop-drop}
-use Rattle.std.proofs.lemmas.List.{take_at, drop_at, take-append-drop, length-take-le}
+use Rattle.std.proofs.lemmas.List.{take_at, drop_at, take-append-drop, length-take-le, nil_from_length}
 use Rattle.std.proofs.lemmas.Bool.Decides.{nat_tests}
 use Rattle.policy.specs.declared.refusal.Refusal.{Refusal}
 use Rattle.query.specs.declared.Query.TheVariants.{Rows, Total, Shared}
@@ -94,10 +94,6 @@ bytes_first_is (Query user (Rows range)) asked layout e = query_first asked layo
 bytes_first_is (Query user (Total range)) asked layout e = query_first asked layout e
 bytes_first_is (Query user (Shared a b range)) asked layout e = query_first asked layout e
 
-none_left : (xs : List ℕ) → length xs ≤ 0 → xs ≡ []
-none_left [] h = refl
-none_left (x ∷ xs) h = absurd (omega arith)
-
 -- the numbers are those of the request and no more
 numbers_are : (layout : Layout) (bytes : List ℕ) (q : Request) → request_layout bytes ≡ Some layout →
     decoded (numbers_in layout bytes) ≡ Ok q → numbers_in layout bytes ≡ numbers_of q
@@ -114,7 +110,7 @@ numbers_are layout bytes q known h =
     let most = words_most 1 layout.single bytes in
     let most_wide = words_most layout.width layout.wide (drop (length singles) bytes) in
     let both : length xs ≡ length (numbers_of q) + length rest = ap (λ (ys : List ℕ). length ys) same ∙ length-append (numbers_of q) rest in
-    let none = none_left rest (omega (arith, exact.all)) in
+    let none = nil_from_length rest (omega (arith, exact.all)) in
     same ∙ ap (λ (ys : List ℕ). numbers_of q ++ ys) none ∙ append-nil (numbers_of q)
 
 -- the bytes of a whole request are its numbers

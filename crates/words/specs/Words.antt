@@ -1,5 +1,5 @@
 -- What a user is told, in words, byte by byte. This is what a reader must believe of the text.
-use Rattle.std.specs.Prelude.{ℕ, cond, List, ◌++◌, codes, decimal, ◌==◌, slice_index}
+use Rattle.std.specs.Prelude.{ℕ, cond, List, ◌++◌, codes, decimal, ◌==◌}
 use Rattle.std.specs.List.{join_by}
 use Rattle.rows.specs.declared.Row.{Row}
 use Rattle.policy.specs.Refusals.{refusal_line}
@@ -11,10 +11,6 @@ use Rattle.model.specs.Model.{Response, done, refused, answered}
 -- key and amount, as 5:70
 abbrev pub row_bytes : Row → List ℕ
 row_bytes row = decimal row.key ++ (codes ":" ++ decimal row.amount)
-
--- a key and an amount as numbers
-abbrev pub pair : List ℕ → Row
-pair numbers = record { key = slice_index numbers 0; amount = slice_index numbers 1 }
 
 -- rows in brackets, with one blank between each two, as [5:70 6:80] or []
 abbrev pub list_bytes : List Row → List ℕ

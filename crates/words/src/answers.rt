@@ -1,8 +1,8 @@
 // An answer in words, read out of the answer row.
 ghost use Rattle.std.specs.Prelude.{◌≡◌, Some, map, drop};
 ghost use Rattle.query.specs.Numbers.{read_answer};
-ghost use Rattle.rows.specs.Halving.{rows_of};
-ghost use Rattle.words.specs.Words.{pair, answer_bytes};
+ghost use Rattle.rows.specs.Halving.{pair_row, rows_of};
+ghost use Rattle.words.specs.Words.{answer_bytes};
 
 use super::lists::{List, Lists};
 use query::Answered;
@@ -41,10 +41,7 @@ impl fmt::Display for Answer<'_> {
 
 // The rows behind the header, if there are any.
 fn behind_header(row: &[u64]) -> &[[u64; 2]]
-    ensures { map pair result.now ≡ rows_of (drop 32 row.now) }
+    ensures { map pair_row result.now ≡ rows_of (drop 32 row.now) }
 {
-    let Some(numbers) = row.get(32..) else {
-        return &[];
-    };
-    numbers.as_chunks::<2>().0
+    rows::pairs(row.get(32..).unwrap_or(&[]))
 }

@@ -2,7 +2,8 @@
 ghost use Rattle.std.specs.Prelude.{Some, map, codes};
 ghost use Rattle.std.specs.List.{join_by};
 ghost use Rattle.query.specs.Numbers.{split};
-ghost use Rattle.words.specs.Words.{pair, list_bytes};
+ghost use Rattle.rows.specs.Halving.{pair_row};
+ghost use Rattle.words.specs.Words.{list_bytes};
 
 use std::fmt;
 
@@ -13,7 +14,7 @@ pub(crate) struct List<'a> {
 }
 
 impl fmt::Display for List<'_> {
-    ghost output = { λ l. Some (list_bytes (map pair l.rows.now)) };
+    ghost output = { λ l. Some (list_bytes (map pair_row l.rows.now)) };
 
     fn fmt<W: fmt::Write>(&self, f: &mut fmt::Formatter<W>) -> fmt::Result {
         write!(f, "[")?;
@@ -34,7 +35,7 @@ pub(crate) struct Lists<'a> {
 }
 
 impl fmt::Display for Lists<'_> {
-    ghost output = { λ l. Some (join_by list_bytes (codes " ") (split l.counts.now (map pair l.rows.now))) };
+    ghost output = { λ l. Some (join_by list_bytes (codes " ") (split l.counts.now (map pair_row l.rows.now))) };
 
     fn fmt<W: fmt::Write>(&self, f: &mut fmt::Formatter<W>) -> fmt::Result {
         let mut left = self.rows;

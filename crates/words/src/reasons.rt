@@ -18,8 +18,7 @@ impl fmt::Display for Reason {
         let refusal = self.refusal;
         match refusal {
             Refusal::NoRequest { place } => write!(f, "no deed at {place}"),
-            Refusal::NoUser { .. } => write!(f, "not allowed"),
-            Refusal::NoFlow { .. } => write!(f, "not allowed"),
+            Refusal::NoUser { .. } | Refusal::NoFlow { .. } => write!(f, "not allowed"),
             Refusal::NoRoom { .. } => write!(f, "no room"),
             Refusal::NoRow { .. } => write!(f, "no row"),
             _ => write!(f, "{refusal}"),

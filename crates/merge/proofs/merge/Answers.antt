@@ -5,7 +5,7 @@ use Rattle.merge.proofs.merge.Goals as goal
 
 pub loop-left-preserved : goal.loop-left-preserved
 loop-left-preserved c =
-    rw (c.turn-left.ensures.next, c.turn-left.ensures.after)
+    rw (c.turn.ensures.next, c.turn.ensures.after)
     (stepped_left _ _ c.loop-left.invariant.0, sym (merging_more _ _ (omega arith) (omega arith)) ∙ c.loop-left.invariant.1)
 
 pub returns-else-left-gt0 : goal.returns-else-left-gt0

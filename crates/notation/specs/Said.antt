@@ -1,5 +1,5 @@
 -- What a text says: the numbers of a policy and the requests behind it, line by line.
-use Rattle.std.specs.Prelude.{◌≡◌, ℕ, ◌+◌, ◌-◌, cond, List, [], ◌∷◌, ◌++◌, length, replicate, Ok, Err, vec_items, Result}
+use Rattle.std.specs.Prelude.{◌≡◌, ℕ, ◌+◌, ◌-◌, cond, List, [], ◌∷◌, ◌++◌, length, replicate, None, Some, Option, Ok, Err, vec_items, Result}
 use Rattle.request.specs.declared.Request.{Request}
 use Rattle.notation.specs.Lines.{then, Seen, stage_of, silent, count_said, user_said, capacity_said, request_said}
 use Rattle.notation.specs.Words.{lines}
@@ -57,10 +57,13 @@ abbrev pub seen_of : Contract → Seen
 seen_of c = record { view = c.view.items; writes = c.writes }
 
 abbrev pub adds : Entry → Said
-adds entry.Nothing = nothing
 adds (entry.Count n) = of_numbers (n ∷ [])
 adds (entry.User c) = of_numbers (contract_numbers (seen_of c))
 adds (entry.Request q) = of_request q
+
+abbrev pub adds_if : Option Entry → Said
+adds_if None = nothing
+adds_if (Some e) = adds e
 
 abbrev pub added : Said → Said → Said
 added said more = record { numbers = said.numbers ++ more.numbers; requests = said.requests ++ more.requests }
@@ -70,11 +73,8 @@ line_said said line = then (entry_said said.numbers line) (λ e. Ok (added said 
 
 -- the text may end where requests are next
 abbrev pub whole_at : Stage → Said → Result Said Reason
-whole_at stage.Users said = Err Unfinished
-whole_at stage.Compartments said = Err Unfinished
-whole_at (stage.User user compartments) said = Err Unfinished
-whole_at (stage.Capacity compartment) said = Err Unfinished
 whole_at stage.Requests said = Ok said
+whole_at _ said = Err Unfinished
 
 abbrev pub whole : Said → Result Said Reason
 whole said = whole_at (stage_of said.numbers) said

@@ -1,6 +1,6 @@
 // What a line adds to a trace.
 ghost use Rattle.notation.specs.Lines.{capacity_said, count_said, then};
-ghost use Rattle.notation.specs.Said.{adds, entry_at, entry_said};
+ghost use Rattle.notation.specs.Said.{adds, adds_if, entry_at, entry_said};
 ghost use Rattle.std.specs.Prelude.{◌≡◌, Ok};
 
 use crate::fault::Reason;
@@ -22,7 +22,6 @@ pub(crate) struct Contract {
 // What a line adds to a trace.
 #[derive(Clone, Copy)]
 pub(crate) enum Entry {
-    Nothing,
     Count(u64),
     User(Contract),
     Request(Request),
@@ -59,12 +58,13 @@ fn entry_at(line: Line, stage: Stage) -> Result<Entry, Reason>
     }
 }
 
-pub(crate) fn entry_in(numbers: &[u64], line: Line) -> Result<Entry, Reason>
-    ensures { then result (λ e. Ok (adds e)) ≡ entry_said numbers.now line.entry.bytes.now }
+// What a line adds, if it is not silent.
+pub(crate) fn entry_in(numbers: &[u64], line: Line) -> Result<Option<Entry>, Reason>
+    ensures { then result (λ e. Ok (adds_if e)) ≡ entry_said numbers.now line.entry.bytes.now }
 {
     if line.is_silent() {
-        Ok(Entry::Nothing)
-    } else {
-        entry_at(line, stage_of(numbers))
+        return Ok(None);
     }
+    let entry = entry_at(line, stage_of(numbers))?;
+    Ok(Some(entry))
 }

@@ -29,7 +29,6 @@ impl Trace {
         ensures { OnOk result (said_of self.new ≡ added (said_of self.old) (adds entry)) }
     {
         match entry {
-            Entry::Nothing => {}
             Entry::Count(number) => self.numbers.push(number)?,
             Entry::User(contract) => self.add_contract(contract)?,
             Entry::Request(request) => self.requests.push(request)?,
@@ -45,7 +44,9 @@ impl Trace {
             line: number,
             reason,
         })?;
-        self.add(entry)?;
+        if let Some(entry) = entry {
+            self.add(entry)?;
+        }
         Ok(())
     }
 

@@ -1,4 +1,4 @@
-use Rattle.std.proofs.Common.{◌==◌, length, length-append, rules, tests, ◌∙◌, arith}
+use Rattle.std.proofs.Common.{length, length-append, rules, tests, ◌∙◌, arith}
 use Rattle.std.proofs.lemmas.Iterator.Consumers.{YieldsList-turn, YieldsList-end}
 use Rattle.std.proofs.lemmas.Result.{err_from_is_err_and}
 use Rattle.notation.specs.Said.{said_of}

@@ -1,6 +1,6 @@
 use Rattle.std.proofs.Common.{◌≡◌, ℕ, List, ◌++◌, ◌∙◌, get_or, take, ap, arith, vec_items}
 use Rattle.std.proofs.lemmas.Grind.{common_steps}
-use Rattle.wire.specs.Written.{low_bytes, written}
+use Rattle.wire.specs.Written.{low_bytes}
 use Rattle.notation.proofs.Pushes.{low_eight}
 use Rattle.notation.proofs.writing.push_numbers.Goals as goal
 

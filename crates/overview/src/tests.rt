@@ -1,5 +1,6 @@
 // Overviews of a policy of three users, and of one with room for one row.
 use policy::Policy;
+use std::alloc::{AllocError, Global};
 use std::test::Fail;
 
 // 0 sees 0 and 1, 1 sees 1, 2 sees 2 and 1; each writes in the compartment of their number; capacities 3, 3 and 2.
@@ -32,10 +33,22 @@ fn one() -> [u64; 21] {
     numbers
 }
 
+// What an overview shows of the policy that the numbers hold.
+fn shown<F>(heap: Global, numbers: &[u64], overview: F) -> Result<String, Fail>
+where
+    F: FnOnce(Global, &Policy) -> Result<String, AllocError>,
+    requires { F.IsAlwaysCallable overview }
+{
+    // A match, since a policy that goes through `?` was tried, and isn't proved.
+    match Policy::read(numbers, 64) {
+        Ok(policy) => Ok(overview(heap, &policy)?),
+        Err(refusal) => Err(Fail::from(refusal)),
+    }
+}
+
 #[test]
 fn shows_a_table(rt: HostRuntime) -> Result<(), Fail> {
-    let policy = Policy::read(&three(), 64)?;
-    let text = crate::table(rt.alloc(), &policy)?;
+    let text = shown(rt.alloc(), &three(), crate::table)?;
     assert!(rt;
         text.as_str()
             == concat!(
@@ -52,8 +65,7 @@ fn shows_a_table(rt: HostRuntime) -> Result<(), Fail> {
 
 #[test]
 fn shows_a_graph(rt: HostRuntime) -> Result<(), Fail> {
-    let policy = Policy::read(&three(), 64)?;
-    let text = crate::graph(rt.alloc(), &policy)?;
+    let text = shown(rt.alloc(), &three(), crate::graph)?;
     assert!(rt;
         text.as_str()
             == concat!(
@@ -82,8 +94,7 @@ fn shows_a_graph(rt: HostRuntime) -> Result<(), Fail> {
 
 #[test]
 fn shows_room_for_one(rt: HostRuntime) -> Result<(), Fail> {
-    let policy = Policy::read(&one(), 64)?;
-    let text = crate::table(rt.alloc(), &policy)?;
+    let text = shown(rt.alloc(), &one(), crate::table)?;
     assert!(rt;
         text.as_str()
             == concat!(

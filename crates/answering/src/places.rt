@@ -3,10 +3,7 @@ ghost use Rattle.std.specs.Prelude.{◌≡◌, ◌≤◌, length, IfSome};
 ghost use Rattle.policy.specs.Access.{memory_length, place_at};
 ghost use Rattle.answering.specs.Places.{Inside, version_at, part_at, fault_at};
 
-use policy::{Place, Policy};
-
-// Every version is below it.
-const LIMIT: u64 = 1 << 40;
+use policy::{Place, Policy, VERSION_LIMIT};
 
 // Where a compartment lies: within memory.
 fn place_in(policy: &Policy, compartment: u64) -> Option<Place>
@@ -47,7 +44,7 @@ pub(crate) fn fault_at(policy: &Policy, memory: &[u64], compartment: u64) -> Opt
     ensures { result ≡ fault_at policy.now memory.now compartment }
 {
     let Place { start, capacity } = place_in(policy, compartment)?;
-    if memory[start] >= LIMIT {
+    if memory[start] >= VERSION_LIMIT {
         return Some(start);
     }
     if memory[start + 1] > capacity as u64 {

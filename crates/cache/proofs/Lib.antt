@@ -1,3 +1,4 @@
+pub mod FirstFound
 pub mod Numbers
 pub mod Stored
 pub mod Reading

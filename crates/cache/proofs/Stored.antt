@@ -4,12 +4,13 @@ use lib.Seq.{take-append-add}
 use Rattle.std.proofs.lemmas.List.{append-nil, append_assoc, take_all, take_at, take-take, take-append-le, take-replicate, drop_at, drop_all, drop-append-le, drop-replicate, length-take, length-take-le, length-drop, length-append, length-replicate, get_or-append-add, reverse-append}
 use Rattle.std.proofs.lemmas.Bool.{cases_lt, lt-ltb, le-ltb}
 use Rattle.std.proofs.lemmas.Bool.Decides.{nat_tests}
+use Rattle.std.specs.Option.{option_or}
 use Rattle.query.specs.declared.Query.{Query}
 use Rattle.query.specs.declared.Query.TheVariants.{Rows as AskRows, Total as AskTotal, Shared as AskShared}
 use Rattle.query.specs.Answers.{same_query}
 use Rattle.cache.specs.declared.Kept.{Kept}
 use Rattle.cache.specs.declared.Kept.TheVariants.{Rows, Total, Shared, NotSeen}
-use Rattle.cache.specs.Places.{query_numbers, sixteen, key_numbers, kept_numbers, kept_of, place_numbers, same_numbers, kept_in, or_else, found_in, look_up, keep_in}
+use Rattle.cache.specs.Places.{query_numbers, sixteen, key_numbers, kept_numbers, kept_of, place_numbers, same_numbers, kept_in, found_in, look_up, keep_in}
 use Rattle.cache.specs.Entries.{Entry, flat, held, find, find_exact, OfView, keep_all}
 use Rattle.cache.proofs.Numbers.{same_decides, sixteen_is}
 
@@ -59,10 +60,10 @@ kept_in_place key own kept h =
     rw (take_at own (kept_numbers kept) 21 h, at 0, at 1, at 2, kept_back kept)
 
 -- the first place of several
-pub found_first : (n : ℕ) (key place rest : List ℕ) → length place ≡ 24 → found_in (suc n) key (place ++ rest) ≡ or_else (kept_in key place) (found_in n key rest)
+pub found_first : (n : ℕ) (key place rest : List ℕ) → length place ≡ 24 → found_in (suc n) key (place ++ rest) ≡ option_or (kept_in key place) (found_in n key rest)
 found_first n key place rest h = rw (take_at place rest 24 h, drop_at place rest 24 h)
 
-or_cond : (b : Bool) (kept : Kept) (other : Option Kept) → or_else (cond b (Some kept) None) other ≡ cond b (Some kept) other
+or_cond : (b : Bool) (kept : Kept) (other : Option Kept) → option_or (cond b (Some kept) None) other ≡ cond b (Some kept) other
 or_cond true kept other = refl
 or_cond false kept other = refl
 
@@ -94,7 +95,7 @@ found_in_zeros query vs (suc n) z h =
     let i = found_in_zeros query vs n (z - 24) (omega arith) in
     rw (take-replicate {X = ℕ} 24 z 0 (omega arith), drop-replicate {X = ℕ} 24 z 0) (passed query ∙ i)
   where
-    passed : (query : Query) → or_else (kept_in (key_numbers query vs) (replicate 24 0)) (found_in n (key_numbers query vs) (replicate (z - 24) 0)) ≡ found_in n (key_numbers query vs) (replicate (z - 24) 0)
+    passed : (query : Query) → option_or (kept_in (key_numbers query vs) (replicate 24 0)) (found_in n (key_numbers query vs) (replicate (z - 24) 0)) ≡ found_in n (key_numbers query vs) (replicate (z - 24) 0)
     passed (AskRows range) = refl
     passed (AskTotal range) = refl
     passed (AskShared a b range) = refl

@@ -2,9 +2,10 @@
 use Rattle.std.proofs.Common.{◌≡◌, ℕ, zero, suc, ◌+◌, ◌-◌, ◌*◌, ◌/◌, ◌≤◌, false, cond, ltb, List, [], ◌∷◌, ◌++◌, reverse, length, take, drop, replicate, Some, None, Option, sym, refl, ap, ◌∙◌, inl, inr, arith}
 use Rattle.std.proofs.lemmas.List.{append-nil, length-take-le, length-drop, drop-drop, length-append}
 use Rattle.std.proofs.lemmas.Bool.{cases_Bool, le-ltb}
+use Rattle.std.specs.Option.{option_or}
 use Rattle.query.specs.declared.Query.{Query}
 use Rattle.cache.specs.declared.Kept.{Kept}
-use Rattle.cache.specs.Places.{sixteen, key_numbers, kept_numbers, place_numbers, same_numbers, kept_in, or_else, found_in, look_up, newer, keep_in}
+use Rattle.cache.specs.Places.{sixteen, key_numbers, kept_numbers, place_numbers, same_numbers, kept_in, found_in, look_up, newer, keep_in}
 use Rattle.cache.specs.Entries.{Entry, held, fits, find, keep_all, Any}
 use Rattle.cache.specs.Laws.{KeptIsFound, OthersStay, SixteenTell, FoundStands, EmptyFindsNothing, LastKept, FoundWasKept, LookUpIsFind}
 use Rattle.cache.proofs.Numbers.{same_decides}
@@ -56,7 +57,7 @@ stands (suc n) key xs kept h e = go (kept_in key (take 24 xs)) refl (stands n ke
   where
     go : (o : Option Kept) → kept_in key (take 24 xs) ≡ o →
         (found_in n key (drop 24 xs) ≡ Some kept → (i : ℕ) × (24 * i + 24 ≤ length (drop 24 xs)) × (take 24 (drop (24 * i) (drop 24 xs)) ≡ key ++ kept_numbers kept)) →
-        or_else o (found_in n key (drop 24 xs)) ≡ Some kept →
+        option_or o (found_in n key (drop 24 xs)) ≡ Some kept →
         (i : ℕ) × (24 * i + 24 ≤ length xs) × (take 24 (drop (24 * i) xs) ≡ key ++ kept_numbers kept)
     go None o later e =
         let l = later e in

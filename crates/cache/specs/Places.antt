@@ -1,5 +1,6 @@
 -- A user's cache as a list of numbers: places of 24, newest first, and what looking up and keeping make of them, damaged or not.
 use Rattle.std.specs.Prelude.{ℕ, zero, suc, ◌-◌, ◌*◌, ◌/◌, Bool, true, false, cond, ◌&&◌, List, [], ◌∷◌, ◌++◌, length, take, drop, replicate, Some, None, Option, ◌==◌, nat_lt, slice_index}
+use Rattle.std.specs.Option.{option_or}
 use Rattle.query.specs.declared.Query.{Query}
 use Rattle.query.specs.declared.Query.TheVariants.{Rows as AskRows, Total as AskTotal, Shared as AskShared}
 use Rattle.cache.specs.declared.Kept.{Kept}
@@ -44,14 +45,10 @@ same_numbers (x ∷ xs) (y ∷ ys) = x == y && same_numbers xs ys
 abbrev pub kept_in : List ℕ → List ℕ → Option Kept
 kept_in key place = cond (same_numbers key (take 21 place)) (kept_of (slice_index place 21) (slice_index place 22) (slice_index place 23)) None
 
-abbrev pub or_else : Option Kept → Option Kept → Option Kept
-or_else None other = other
-or_else (Some kept) other = Some kept
-
 -- the first of so many places that keeps something under the key
 abbrev pub found_in : ℕ → List ℕ → List ℕ → Option Kept
 found_in zero key places = None
-found_in (suc n) key places = or_else (kept_in key (take 24 places)) (found_in n key (drop 24 places))
+found_in (suc n) key places = option_or (kept_in key (take 24 places)) (found_in n key (drop 24 places))
 
 -- a place is a whole 24 numbers
 abbrev pub look_up : Query → List ℕ → List ℕ → Option Kept

@@ -1,10 +1,12 @@
 // The answers kept for a user, newest first: looked up by the query and the versions of what the user sees, and kept in front.
 #![tactic(auto)]
 
-ghost use Rattle.std.specs.Prelude.{◌≡◌, ◌/◌, ◌≤◌, ◌++◌, length};
+ghost use Rattle.std.specs.Prelude.{◌≡◌, ◌*◌, ◌/◌, ◌≤◌, ◌++◌, length, slice_index};
+ghost use Rattle.std.specs.Result.{result_ok};
+ghost use Rattle.cache.specs.Kept.{kept_from};
 ghost use Rattle.cache.specs.Places.{query_numbers, key_numbers, kept_numbers, kept_of, kept_in, found_in, look_up, moved_back, keep_in};
 
-use query::Query;
+use query::{Answered, Query};
 
 pub mod laws;
 
@@ -21,14 +23,67 @@ pub enum Kept {
     NotSeen,
 }
 
+impl From<Answered> for Kept {
+    ghost from_gives = { λ answered kept. kept ≡ kept_from answered };
+
+    fn from(answered: Answered) -> Kept {
+        match answered {
+            Answered::Rows { .. } => Kept::Rows,
+            Answered::Total { rows, amount } => Kept::Total {
+                rows: rows as u64,
+                amount,
+            },
+            Answered::Shared { .. } => Kept::Shared,
+            Answered::NotSeen => Kept::NotSeen,
+        }
+    }
+}
+
+// Numbers that no answer has keep nothing.
+#[derive(Clone, Copy, PartialEq, Eq, Debug)]
+pub struct NoAnswer;
+
+// What is kept, in memory: its kind and two numbers.
+impl From<Kept> for [u64; KEPT] {
+    ghost from_gives = { λ kept numbers. numbers ≡ kept_numbers kept };
+
+    fn from(kept: Kept) -> [u64; KEPT] {
+        match kept {
+            Kept::Rows => [1, 0, 0],
+            Kept::Total { rows, amount } => [2, rows, amount],
+            Kept::Shared => [3, 0, 0],
+            Kept::NotSeen => [4, 0, 0],
+        }
+    }
+}
+
+// And back.
+impl TryFrom<[u64; KEPT]> for Kept {
+    type Error = NoAnswer;
+
+    ghost try_from_gives = { λ numbers kept. result_ok kept ≡ kept_of (slice_index numbers 0) (slice_index numbers 1) (slice_index numbers 2) };
+
+    fn try_from(numbers: [u64; KEPT]) -> Result<Kept, NoAnswer> {
+        match numbers {
+            [1, 0, 0] => Ok(Kept::Rows),
+            [2, rows, amount] => Ok(Kept::Total { rows, amount }),
+            [3, 0, 0] => Ok(Kept::Shared),
+            [4, 0, 0] => Ok(Kept::NotSeen),
+            _ => Err(NoAnswer),
+        }
+    }
+}
+
 // A place is 24 numbers: the query in five, sixteen versions, and what is kept in three. Its first 21 are the key.
-const PLACE: usize = 24;
-
-const KEY: usize = 21;
-
 const QUERY: usize = 5;
 
 const VERSIONS: usize = 16;
+
+const KEPT: usize = 3;
+
+const KEY: usize = QUERY + VERSIONS;
+
+const PLACE: usize = KEY + KEPT;
 
 // What the newest place with this query and these versions keeps. Versions past sixteen are not looked at, fewer are followed by 0.
 // A place with numbers that no answer has is passed over, and what is left of the slice behind whole places belongs to none.
@@ -43,76 +98,42 @@ pub fn keep(places: &mut [u64], query: Query, versions: &[u64], kept: Kept)
     ensures { places.new ≡ keep_in query versions.now kept places.old }
 {
     if places.len() >= PLACE {
-        let all = places.len() / PLACE * PLACE;
-        let key = key_numbers(query, versions);
-        put_first(places, all, &key, &kept_numbers(kept));
+        put_first(places, &key_numbers(query, versions), kept);
     }
 }
 
 // Moves all places but the last back by one, and writes the first: its key, then what it keeps.
-fn put_first(places: &mut [u64], all: usize, key: &[u64], kept: &[u64])
-    requires room { 24 ≤ all }
-    requires within { all ≤ length places.old }
-    requires key { length key.now ≡ 21 }
-    requires kept { length kept.now ≡ 3 }
-    ensures { places.new ≡ moved_back all (key.now ++ kept.now) places.old }
+fn put_first(places: &mut [u64], key: &[u64; KEY], kept: Kept)
+    requires { 24 ≤ length places.old }
+    ensures { places.new ≡ moved_back (length places.old / 24 * 24) (key.now ++ kept_numbers kept) places.old }
 {
-    places.copy_within(0..all - PLACE, PLACE);
-    places[0..KEY].copy_from_slice(key);
-    places[KEY..PLACE].copy_from_slice(kept);
+    let all = places.len() / PLACE * PLACE;
+    places.copy_within(..all - PLACE, PLACE);
+    places[..KEY].copy_from_slice(key);
+    places[KEY..PLACE].copy_from_slice(&<[u64; KEPT]>::from(kept));
 }
 
 // What the newest place with this key keeps.
-fn newest(places: &[u64], key: &[u64]) -> Option<Kept>
+fn newest(places: &[u64], key: &[u64; KEY]) -> Option<Kept>
     ensures { result ≡ found_in (length places.now / 24) key.now places.now }
 {
-    for i in 0..places.len() / PLACE {
-        let kept = read_place(&places[PLACE * i..PLACE * i + PLACE], key);
-        if kept.is_some() {
-            return kept;
-        }
-    }
-    None
+    let (places, _) = places.as_chunks::<PLACE>();
+    places.iter().find_map(|place| read_place(place, key))
 }
 
 // What a place keeps, if it has this key.
-fn read_place(place: &[u64], key: &[u64]) -> Option<Kept>
-    requires { length place.now ≡ 24 }
+fn read_place(place: &[u64; PLACE], key: &[u64; KEY]) -> Option<Kept>
     ensures { result ≡ kept_in key.now place.now }
 {
-    if key == &place[0..KEY] {
-        read_kept(place[KEY], place[KEY + 1], place[KEY + 2])
-    } else {
-        None
+    if !place.starts_with(key) {
+        return None;
     }
-}
-
-// What three numbers keep: nothing, where no answer has them.
-fn read_kept(kind: u64, rows: u64, amount: u64) -> Option<Kept>
-    ensures { result ≡ kept_of kind rows amount }
-{
-    match (kind, rows, amount) {
-        (1, 0, 0) => Some(Kept::Rows),
-        (2, rows, amount) => Some(Kept::Total { rows, amount }),
-        (3, 0, 0) => Some(Kept::Shared),
-        (4, 0, 0) => Some(Kept::NotSeen),
-        _ => None,
-    }
-}
-
-fn kept_numbers(kept: Kept) -> [u64; 3]
-    ensures { result ≡ kept_numbers kept }
-{
-    match kept {
-        Kept::Rows => [1, 0, 0],
-        Kept::Total { rows, amount } => [2, rows, amount],
-        Kept::Shared => [3, 0, 0],
-        Kept::NotSeen => [4, 0, 0],
-    }
+    let [.., kind, rows, amount] = *place;
+    Kept::try_from([kind, rows, amount]).ok()
 }
 
 // The query in five numbers: its kind, the key range, and for shared rows the two compartments.
-fn query_numbers(query: Query) -> [u64; 5]
+fn query_numbers(query: Query) -> [u64; QUERY]
     ensures { result ≡ query_numbers query }
 {
     match query {
@@ -125,13 +146,13 @@ fn query_numbers(query: Query) -> [u64; 5]
 }
 
 // The query and the versions, with 0 in what is left of sixteen.
-fn key_numbers(query: Query, versions: &[u64]) -> [u64; 21]
+fn key_numbers(query: Query, versions: &[u64]) -> [u64; KEY]
     ensures { result ≡ key_numbers query versions.now }
 {
     let mut key = [0; KEY];
     let count = versions.len().min(VERSIONS);
-    key[0..QUERY].copy_from_slice(&query_numbers(query));
-    key[QUERY..QUERY + count].copy_from_slice(&versions[0..count]);
+    key[..QUERY].copy_from_slice(&query_numbers(query));
+    key[QUERY..QUERY + count].copy_from_slice(&versions[..count]);
     key
 }
 

@@ -1,3 +1,4 @@
 -- What the contracts of this crate cite.
 pub mod Parts
+pub mod Changes
 pub mod Holding

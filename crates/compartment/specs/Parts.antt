@@ -50,33 +50,38 @@ abbrev pub after_by : List ℕ → List ℕ → Option ℕ → List ℕ
 after_by changed part None = part
 after_by changed part (Some count) = cond (nat_lt (slice_index part 0 + 1) limit) (raised (slice_index part 0) count changed) part
 
-abbrev pub write_told : ℕ → ℕ → Row → List ℕ → Result (Unit {0}) Refusal
-write_told start compartment row part =
+-- what any change tells, by the refusal at a capacity and the number of rows after it, and the part afterwards
+abbrev pub change_told : ℕ → ℕ → (ℕ → Refusal) → (ℕ → List ℕ → Option ℕ) → List ℕ → Result (Unit {0}) Refusal
+change_told start compartment refusal count part =
     cond (sound part)
-    (told_by compartment (NoRoom (capacity part)) part (put_count (slice_index part 1) row (drop 2 part)))
+    (told_by compartment (refusal (capacity part)) part (count (slice_index part 1) (drop 2 part)))
     (Err (fault start part))
+
+abbrev pub change_after : (ℕ → List ℕ → Option ℕ) → (ℕ → List ℕ → List ℕ) → List ℕ → List ℕ
+change_after count rows part =
+    cond (sound part)
+    (after_by (take 2 part ++ rows (slice_index part 1) (drop 2 part)) part (count (slice_index part 1) (drop 2 part)))
+    part
+
+abbrev pub write_told : ℕ → ℕ → Row → List ℕ → Result (Unit {0}) Refusal
+write_told start compartment row part = change_told start compartment (λ capacity. NoRoom capacity) (λ count rows. put_count count row rows) part
 
 abbrev pub write_after : Row → List ℕ → List ℕ
-write_after row part =
-    cond (sound part)
-    (after_by (take 2 part ++ put_into (slice_index part 1) row (drop 2 part)) part (put_count (slice_index part 1) row (drop 2 part)))
-    part
+write_after row part = change_after (λ count rows. put_count count row rows) (λ count rows. put_into count row rows) part
 
 abbrev pub delete_told : ℕ → ℕ → ℕ → List ℕ → Result (Unit {0}) Refusal
-delete_told start compartment key part =
-    cond (sound part)
-    (told_by compartment (NoRow key) part (delete_count (slice_index part 1) key (drop 2 part)))
-    (Err (fault start part))
+delete_told start compartment key part = change_told start compartment (λ capacity. NoRow key) (λ count rows. delete_count count key rows) part
 
 abbrev pub delete_after : ℕ → List ℕ → List ℕ
-delete_after key part =
-    cond (sound part)
-    (after_by (take 2 part ++ delete_from (slice_index part 1) key (drop 2 part)) part (delete_count (slice_index part 1) key (drop 2 part)))
-    part
+delete_after key part = change_after (λ count rows. delete_count count key rows) (λ count rows. delete_from count key rows) part
 
 -- a number of rows, where there is room for them
 abbrev pub fitting : ℕ → List ℕ → Option ℕ
 fitting count part = cond (nat_le count (capacity part)) (Some count) None
+
+-- the same, of the memory of the rows
+abbrev pub refilled : ℕ → List ℕ → Option ℕ
+refilled count rows = cond (nat_le count (length rows / 2)) (Some count) None
 
 -- a change to a number of rows, which are written later
 abbrev pub raise_told : ℕ → ℕ → ℕ → List ℕ → Result (Unit {0}) Refusal

@@ -2,11 +2,9 @@
 #![tactic(auto)]
 
 ghost use Rattle.std.specs.Prelude.{◌≡◌, ◌+◌, ◌*◌, ◌/◌, ◌^◌, ◌<◌, ◌≤◌, true, length, drop, IfSome};
-ghost use Rattle.rows.specs.Halving.{rows_of};
-ghost use Rattle.rows.specs.Numbers.{stands_at, skipped, merged};
 ghost use Rattle.merge.specs.Numbers.{new_keys, lies_within, plan, planned, fits, Left, keeps, replaces, moved, stepped, written, merging, merged_into};
 
-use rows::{KeyRange, position, range};
+use rows::{KeyRange, position, range, shared_keys};
 
 pub mod laws;
 
@@ -35,42 +33,6 @@ pub fn new_keys(source: &[u64], destination: &[u64]) -> usize
     ensures within { result ≤ length source.now / 2 }
 {
     source.len() / 2 - shared_keys(source, destination)
-}
-
-// The pass: `next` never goes back, so that each row of `b` is passed once.
-fn shared_keys(a: &[u64], b: &[u64]) -> usize
-    ensures value { result ≡ length (merged (rows_of a.now) (rows_of b.now)) }
-    ensures within { result ≤ length a.now / 2 }
-{
-    let mut next = 0;
-    let mut shared = 0;
-    for i in 0..a.len() / 2 {
-        next = skip(b, next, a[2 * i]);
-        if stands_at(b, next, a[2 * i]) {
-            shared += 1;
-        }
-    }
-    shared
-}
-
-// Whether the row at a place is there and has this key.
-fn stands_at(rows: &[u64], at: usize, key: u64) -> bool
-    ensures { result ≡ stands_at at key rows.now }
-{
-    at < rows.len() / 2 && rows[2 * at] == key
-}
-
-// The first place from `from` on whose key is not smaller.
-fn skip(rows: &[u64], from: usize, key: u64) -> usize
-    requires { from ≤ length rows.now / 2 }
-    ensures value { rows_of (drop (2 * result) rows.now) ≡ skipped key (rows_of (drop (2 * from) rows.now)) }
-    ensures within { result ≤ length rows.now / 2 }
-{
-    let mut at = from;
-    while at < rows.len() / 2 && rows[2 * at] < key {
-        at += 1;
-    }
-    at
 }
 
 // What a copy of a key range comes to: the range found in both parts by halving, and the new keys counted; none where a part lies outside memory.

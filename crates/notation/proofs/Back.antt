@@ -14,11 +14,9 @@ use Rattle.wire.specs.Written.{written, bytes_of, bytes_first, AllLess}
 use Rattle.wire.proofs.Writing.{request_round_trip, policy_round_trip}
 use Rattle.notation.specs.Bytes.{policy_bytes, request_bytes, requests_bytes}
 use Rattle.notation.specs.Laws.{Hold, ReadAs, ReadsBack}
-use Rattle.notation.specs.Lines.{single_numbers, silent, stage_of, entry_at, entry_said, count_said, capacity_said, user_said, request_said}
-use Rattle.notation.specs.Said.{Said, nothing, added, numbers_added, requests_added, line_said, whole_at, whole, at_line, lines_said}
+use Rattle.notation.specs.Lines.{single_numbers, silent, stage_of, count_said, capacity_said, user_said, request_said}
+use Rattle.notation.specs.Said.{Said, nothing, added, of_request, entry_at, entry_said, line_said, whole_at, whole, at_line, lines_said}
 use Rattle.notation.specs.Words.{lines}
-use Rattle.notation.specs.declared.entries.Entry.{Entry}
-use Rattle.notation.specs.declared.entries.Entry.TheVariants as entry
 use Rattle.notation.specs.declared.fault.Reason.{Reason}
 use Rattle.notation.specs.declared.names.Name.TheVariants as name
 use Rattle.notation.specs.declared.stages.Stage.{Stage}
@@ -27,23 +25,23 @@ use Rattle.notation.proofs.Oks.{Stands, then_ok, ok_same, no_ok, count_ok, capac
 use Rattle.notation.proofs.Good.{Good, Fits, stage_fits, less_more, one_user, two_counts, one_more_user, one_more_capacity}
 
 -- the numbers that a line adds are good behind good ones
-nothing_more : (ns : List ℕ) (e : Entry) → numbers_added e ≡ [] → Good ns → Good (ns ++ numbers_added e)
+nothing_more : (ns : List ℕ) (e : Said) → e.numbers ≡ [] → Good ns → Good (ns ++ e.numbers)
 nothing_more ns e none g = subst (λ (xs : List ℕ). Good xs) (sym (append-nil ns) ∙ ap (λ (xs : List ℕ). ns ++ xs) (sym none)) g
 
-grows : (s : Stage) (ns line : List ℕ) (e : Entry) → Fits ns s → Good ns → entry_at s line ≡ Ok e → Good (ns ++ numbers_added e)
+grows : (s : Stage) (ns line : List ℕ) (e : Said) → Fits ns s → Good ns → entry_at s line ≡ Ok e → Good (ns ++ e.numbers)
 grows stage.Users ns line e f g h =
     let count = then_ok (count_said name.Users 32 line) _ e h in
     let is = ok_same _ e count.2 in
     let new = one_user count.0 (count_ok name.Users 32 line count.0 count.1) in
     let none = nil_from_length ns f in
-    subst (λ (x : Entry). Good (ns ++ numbers_added x)) is (subst (λ (xs : List ℕ). Good (xs ++ count.0 ∷ [])) (sym none) new)
+    subst (λ (x : Said). Good (ns ++ x.numbers)) is (subst (λ (xs : List ℕ). Good (xs ++ count.0 ∷ [])) (sym none) new)
 grows stage.Compartments [] line e f g h = absurd (omega arith)
 grows stage.Compartments (u ∷ v ∷ ns) line e f g h = absurd (omega arith)
 grows stage.Compartments (u ∷ []) line e f g h =
     let count = then_ok (count_said name.Compartments 16 line) _ e h in
     let is = ok_same _ e count.2 in
     let new = two_counts u count.0 g (count_ok name.Compartments 16 line count.0 count.1) in
-    subst (λ (x : Entry). Good (u ∷ numbers_added x)) is new
+    subst (λ (x : Said). Good (u ∷ x.numbers)) is new
 grows (stage.User user compartments) ns line e f g h =
     let read = then_ok (user_said user compartments line) _ e h in
     let is = ok_same _ e read.2 in
@@ -51,7 +49,7 @@ grows (stage.User user compartments) ns line e f g h =
     let single : single_numbers ns ≡ user_at (users_in ns) = cond-false (ltb 32 (users_in ns)) _ _ (le-ltb 32 (users_in ns) b) in
     let short = f.1 in
     elim (g.shape f.0) [
-      | inl s ↦ subst (λ (x : Entry). Good (ns ++ numbers_added x)) is
+      | inl s ↦ subst (λ (x : Said). Good (ns ++ x.numbers)) is
           (one_more_user ns g s.0 s.2 (let t = s.2 in omega arith) read.0 (subst (λ (n : ℕ). Stands n read.0) f.3 (user_ok user compartments line read.0 read.1)))
       | inr s ↦ let t = s.2 in absurd (omega arith)
     ]
@@ -63,11 +61,11 @@ grows (stage.Capacity compartment) ns line e f g h =
     let long = f.1 in
     let low = f.2 in
     let c : ℕ = length ns - user_at (users_in ns) in
-    subst (λ (x : Entry). Good (ns ++ numbers_added x)) is
+    subst (λ (x : Said). Good (ns ++ x.numbers)) is
     (one_more_capacity ns g c f.0 (omega arith) (omega arith) read.0 (capacity_ok compartment line read.0 read.1))
 grows stage.Requests ns line e f g h =
     let read = then_ok (request_said line) _ e h in
-    subst (λ (x : Entry). Good (ns ++ numbers_added x)) (ok_same _ e read.2) (nothing_more ns (entry.Request read.0) refl g)
+    subst (λ (x : Said). Good (ns ++ x.numbers)) (ok_same _ e read.2) (nothing_more ns (of_request read.0) refl g)
 
 abbrev AllWithin : List Request → Type 0
 AllWithin [] = Unit {0}
@@ -77,14 +75,14 @@ within_append : (qs rs : List Request) → AllWithin qs → AllWithin rs → All
 within_append [] rs a b = b
 within_append (q ∷ qs) rs a b = (a.0, within_append qs rs a.1 b)
 
-asks : (s : Stage) (line : List ℕ) (e : Entry) → entry_at s line ≡ Ok e → AllWithin (requests_added e)
-asks stage.Users line e h = let t = then_ok (count_said name.Users 32 line) _ e h in subst (λ (x : Entry). AllWithin (requests_added x)) (ok_same _ e t.2) tt
-asks stage.Compartments line e h = let t = then_ok (count_said name.Compartments 16 line) _ e h in subst (λ (x : Entry). AllWithin (requests_added x)) (ok_same _ e t.2) tt
-asks (stage.User user compartments) line e h = let t = then_ok (user_said user compartments line) _ e h in subst (λ (x : Entry). AllWithin (requests_added x)) (ok_same _ e t.2) tt
-asks (stage.Capacity compartment) line e h = let t = then_ok (capacity_said compartment line) _ e h in subst (λ (x : Entry). AllWithin (requests_added x)) (ok_same _ e t.2) tt
+asks : (s : Stage) (line : List ℕ) (e : Said) → entry_at s line ≡ Ok e → AllWithin (e.requests)
+asks stage.Users line e h = let t = then_ok (count_said name.Users 32 line) _ e h in subst (λ (x : Said). AllWithin (x.requests)) (ok_same _ e t.2) tt
+asks stage.Compartments line e h = let t = then_ok (count_said name.Compartments 16 line) _ e h in subst (λ (x : Said). AllWithin (x.requests)) (ok_same _ e t.2) tt
+asks (stage.User user compartments) line e h = let t = then_ok (user_said user compartments line) _ e h in subst (λ (x : Said). AllWithin (x.requests)) (ok_same _ e t.2) tt
+asks (stage.Capacity compartment) line e h = let t = then_ok (capacity_said compartment line) _ e h in subst (λ (x : Said). AllWithin (x.requests)) (ok_same _ e t.2) tt
 asks stage.Requests line e h =
     let t = then_ok (request_said line) _ e h in
-    subst (λ (x : Entry). AllWithin (requests_added x)) (ok_same _ e t.2) (request_ok line t.0 t.1, tt)
+    subst (λ (x : Said). AllWithin (x.requests)) (ok_same _ e t.2) (request_ok line t.0 t.1, tt)
 
 -- what lines say is within its bounds
 record Sound (said : Said) : Type 0 where
@@ -104,18 +102,18 @@ nothing_sound = record {
   requests = tt;
 }
 
-entry_sound : (said : Said) (line : List ℕ) (e : Entry) → Sound said → entry_said said.numbers line ≡ Ok e → Sound (added said e)
+entry_sound : (said : Said) (line : List ℕ) (e : Said) → Sound said → entry_said said.numbers line ≡ Ok e → Sound (added said e)
 entry_sound said line e s h =
     elim (cases_Bool (silent line)) [
       | inl t ↦
-          let is = ok_same entry.Nothing e (rw t at h) in
-          subst (λ (x : Entry). Sound (added said x)) is (record {
-            numbers = nothing_more said.numbers entry.Nothing refl s.numbers;
+          let is = ok_same nothing e (rw t at h) in
+          subst (λ (x : Said). Sound (added said x)) is (record {
+            numbers = nothing_more said.numbers nothing refl s.numbers;
             requests = within_append said.requests [] s.requests tt;
           })
       | inr t ↦ let read = rw t at h in record {
         numbers = grows (stage_of said.numbers) said.numbers line e (stage_fits said.numbers) s.numbers read;
-        requests = within_append said.requests (requests_added e) s.requests (asks (stage_of said.numbers) line e read);
+        requests = within_append said.requests (e.requests) s.requests (asks (stage_of said.numbers) line e read);
       }
     ]
 

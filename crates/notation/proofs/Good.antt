@@ -6,10 +6,8 @@ use Rattle.policy.specs.Numbers.{users_in, compartments_in, user_at, view_in, wr
 use Rattle.policy.specs.Rules.{has}
 use Rattle.policy.specs.Views.{distinct_below}
 use Rattle.wire.specs.Written.{AllLess}
-use Rattle.notation.specs.Lines.{single_numbers, stage_of}
-use Rattle.notation.specs.Said.{contract_numbers}
-use Rattle.notation.specs.declared.entries.View.{View}
-use Rattle.notation.specs.declared.entries.Contract.{Contract}
+use Rattle.notation.specs.Lines.{Seen, single_numbers, stage_of}
+use Rattle.notation.specs.Said.{contract_numbers, padded}
 use Rattle.notation.specs.declared.stages.Stage.{Stage}
 use Rattle.notation.specs.declared.stages.Stage.TheVariants as stage
 use Rattle.notation.proofs.Oks.{Stands}
@@ -128,12 +126,12 @@ two_counts u n g b = record {
 }
 
 -- a user's eighteen numbers behind those of the users before
-module _ (ns : List ℕ) (g : Good ns) (k : ℕ) (long : length ns ≡ user_at k) (low : k < users_in ns) (c : Contract) (s : Stands (compartments_in ns) c) where
+module _ (ns : List ℕ) (g : Good ns) (k : ℕ) (long : length ns ≡ user_at k) (low : k < users_in ns) (c : Seen) (s : Stands (compartments_in ns) c) where
   abbrev cs : List ℕ
-  cs = s.view
+  cs = c.view
 
   abbrev places : List ℕ
-  places = c.view.places
+  places = padded cs
 
   abbrev xs : List ℕ
   xs = contract_numbers c
@@ -144,16 +142,10 @@ module _ (ns : List ℕ) (g : Good ns) (k : ℕ) (long : length ns ≡ user_at k
   two : 1 < length ns
   two = omega arith
 
-  places_are : places ≡ cs ++ replicate (16 - length cs) 0
-  places_are = ap (λ (v : View). v.places) s.is
-
-  seen_is : c.view.seen ≡ length cs
-  seen_is = ap (λ (v : View). v.seen) s.is
-
   places_long : length places ≡ 16
   places_long =
       let few = s.few in
-      ap (λ (ys : List ℕ). length ys) places_are ∙ length-append cs (replicate (16 - length cs) 0) ∙ omega (arith, length-replicate {A = ℕ} (16 - length cs) 0)
+      length-append cs (replicate (16 - length cs) 0) ∙ omega (arith, length-replicate {A = ℕ} (16 - length cs) 0)
 
   xs_long : length xs ≡ 18
   xs_long = let p = places_long in let a = length-append places (c.writes ∷ []) in omega arith
@@ -171,7 +163,7 @@ module _ (ns : List ℕ) (g : Good ns) (k : ℕ) (long : length ns ≡ user_at k
   written = has_less (compartments_in ns) c.writes cs less parts.1
 
   count_here : get_or all (user_at k) 0 ≡ length cs
-  count_here = get_or_at ns c.view.seen (places ++ c.writes ∷ []) 0 (user_at k) long ∙ seen_is
+  count_here = get_or_at ns (length cs) (places ++ c.writes ∷ []) 0 (user_at k) long
 
   behind_count : drop (user_at k + 1) all ≡ places ++ c.writes ∷ []
   behind_count = sym (drop-drop 1 (user_at k) all) ∙ ap (λ (ys : List ℕ). drop 1 ys) (drop_at ns xs (user_at k) long)
@@ -179,8 +171,7 @@ module _ (ns : List ℕ) (g : Good ns) (k : ℕ) (long : length ns ≡ user_at k
   view_here : view_in all k ≡ cs
   view_here =
       rw (count_here, behind_count)
-      (ap (λ (ys : List ℕ). take (length cs) (ys ++ c.writes ∷ [])) places_are
-      ∙ ap (λ (ys : List ℕ). take (length cs) ys) (append_assoc cs (replicate (16 - length cs) 0) (c.writes ∷ []))
+      (ap (λ (ys : List ℕ). take (length cs) ys) (append_assoc cs (replicate (16 - length cs) 0) (c.writes ∷ []))
       ∙ take_at cs (replicate (16 - length cs) 0 ++ c.writes ∷ []) (length cs) refl)
 
   writes_here : writes_in all k ≡ c.writes
@@ -215,12 +206,11 @@ module _ (ns : List ℕ) (g : Good ns) (k : ℕ) (long : length ns ≡ user_at k
         small =
             let b = (g.compartments two).1 in
             let few = s.few in
-            let seen = seen_is in
             let w = written.0 in
             less_append 256 ns xs g.small (
               omega arith,
               less_append 256 places (c.writes ∷ [])
-                  (subst (λ (ys : List ℕ). AllLess 256 ys) (sym places_are) (less_append 256 cs _ (less_more (compartments_in ns) 256 cs (omega arith) less) (less_zeros (16 - length cs))))
+                  (less_append 256 cs _ (less_more (compartments_in ns) 256 cs (omega arith) less) (less_zeros (16 - length cs)))
                   (omega arith, tt),
             );
       }

@@ -3,6 +3,7 @@ use Rattle.std.proofs.Common.{◌≡◌, ℕ, zero, suc, ◌+◌, ◌-◌, ◌^�
 use Rattle.std.proofs.lemmas.List.{take_at}
 use Rattle.std.proofs.lemmas.Bool.{and_parts, leb-true, cases_Bool}
 use Rattle.std.specs.Str.{bytes_eq}
+use Rattle.policy.specs.Views.{stands}
 use Rattle.rows.specs.declared.KeyRange.{KeyRange}
 use Rattle.query.specs.declared.Query.{Query}
 use Rattle.request.specs.declared.Request.{Request}
@@ -10,9 +11,7 @@ use Rattle.request.specs.declared.Request.TheVariants as request
 use Rattle.request.specs.Format.{WithinBounds}
 use Rattle.notation.specs.Names.{spelled}
 use Rattle.notation.specs.Words.{word_at}
-use Rattle.notation.specs.Lines.{then, number_at, within, key_at, compartment_at, range_at, shared_said, asked, request_said, verb_at, ends, named, count_said, capacity_said, next_at, padded, view_from, view_read, view_said, user_said, stands}
-use Rattle.notation.specs.declared.entries.View.{View}
-use Rattle.notation.specs.declared.entries.Contract.{Contract}
+use Rattle.notation.specs.Lines.{then, number_at, within, key_at, compartment_at, range_at, shared_said, asked, request_said, verb_at, ends, named, count_said, capacity_said, next_at, Seen, view_from, view_said, user_said}
 use Rattle.notation.specs.declared.fault.Reason.TheVariants.{OutOfBounds, BadView}
 use Rattle.notation.specs.declared.names.Name.{Name}
 use Rattle.notation.specs.declared.names.Name.TheVariants as name
@@ -129,37 +128,21 @@ view_few (suc n) line place cs e =
     ]
 
 -- what is known of a user's contract that is read
-pub record Stands (compartments : ℕ) (c : Contract) : Type 0 where
-  pub view : List ℕ
-  pub few : length view ≤ 16
-  pub is : c.view ≡ padded view
-  pub stands : stands compartments view c.writes ≡ true
+pub record Stands (compartments : ℕ) (c : Seen) : Type 0 where
+  pub few : length c.view ≤ 16
+  pub stands : stands compartments c.view c.writes ≡ true
 
-view_ok : (compartments : ℕ) (line : List ℕ) (c : Contract) → view_said compartments line ≡ Ok c → Stands compartments c
+view_ok : (compartments : ℕ) (line : List ℕ) (c : Seen) → view_said compartments line ≡ Ok c → Stands compartments c
 view_ok compartments line c e =
-    let read = then_ok (view_read line) _ c e in
-    let listed = then_ok (view_from 16 line 3) _ read.0 read.1 in
-    let v : View = read.0 in
-    let cs : List ℕ = listed.0 in
-    let is : padded cs ≡ v = ok_same _ v listed.2 in
-    let sees = then_ok (named name.Writes line (3 + v.seen)) _ c read.2 in
-    let writes = then_ok (number_at line (4 + v.seen)) _ c sees.2 in
-    let end = then_ok (ends line (5 + v.seen)) _ c writes.2 in
-    let w : ℕ = writes.0 in
-    let good = cond_ok (stands compartments (take v.seen v.places) w) _ BadView c end.2 in
-    let same = good.1 in
-    let whole : take v.seen v.places ≡ cs =
-    ap (λ (x : View). take x.seen x.places) (sym is) ∙ take_at cs (replicate (16 - length cs) 0) (length cs) refl in
-    record {
-      view = cs;
-      few = view_few 16 line 3 cs listed.1;
-      is = ap (λ (x : Contract). x.view) (sym same) ∙ sym is;
-      stands =
-          ap (λ (n : ℕ). stands compartments cs n) (ap (λ (x : Contract). x.writes) (sym same))
-          ∙ ap (λ (xs : List ℕ). stands compartments xs w) (sym whole) ∙ good.0;
-    }
+    let read = then_ok (view_from 16 line 3) _ c e in
+    let view : List ℕ = read.0 in
+    let sees = then_ok (named name.Writes line (3 + length view)) _ c read.2 in
+    let writes = then_ok (number_at line (4 + length view)) _ c sees.2 in
+    let end = then_ok (ends line (5 + length view)) _ c writes.2 in
+    let good = cond_ok (stands compartments view writes.0) _ BadView c end.2 in
+    subst (λ (x : Seen). Stands compartments x) good.1 (record { few = view_few 16 line 3 view read.1; stands = good.0 })
 
-pub user_ok : (user compartments : ℕ) (line : List ℕ) (c : Contract) → user_said user compartments line ≡ Ok c → Stands compartments c
+pub user_ok : (user compartments : ℕ) (line : List ℕ) (c : Seen) → user_said user compartments line ≡ Ok c → Stands compartments c
 user_ok user compartments line c e =
     let first = then_ok (named name.User line 0) _ c e in
     let second = then_ok (next_at user line 1) _ c first.2 in

@@ -2,6 +2,8 @@
 use Rattle.std.specs.Prelude.{ℕ, List, ◌++◌, codes, decimal}
 use Rattle.notation.specs.Names.{spelled}
 use Rattle.notation.specs.declared.fault.Fault.{Fault}
+use Rattle.notation.specs.declared.fault.ReadError.{ReadError}
+use Rattle.notation.specs.declared.fault.ReadError.TheVariants as error
 use Rattle.notation.specs.declared.fault.Reason.{Reason}
 use Rattle.notation.specs.declared.fault.Reason.TheVariants.{Expected, NotNext, NoVerb, NoNumber, OutOfBounds, TooLong, BadView, Unfinished}
 
@@ -17,3 +19,7 @@ reason_bytes Unfinished = codes "the policy is cut short"
 
 abbrev pub fault_bytes : Fault → List ℕ
 fault_bytes fault = codes "line " ++ (decimal fault.line ++ (codes ": " ++ reason_bytes fault.reason))
+
+abbrev pub error_bytes : ReadError → List ℕ
+error_bytes (error.Fault fault) = fault_bytes fault
+error_bytes error.OutOfMemory = codes "out of memory"

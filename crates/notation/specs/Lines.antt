@@ -4,8 +4,7 @@ use Rattle.std.specs.Option.{ok_or}
 use Rattle.std.specs.Str.{bytes_eq}
 use Rattle.rows.specs.declared.KeyRange.{KeyRange}
 use Rattle.policy.specs.Numbers.{users_in, compartments_in, user_at}
-use Rattle.policy.specs.Rules.{has}
-use Rattle.policy.specs.Views.{distinct_below}
+use Rattle.policy.specs.Views.{stands}
 use Rattle.query.specs.declared.Query.{Query}
 use Rattle.query.specs.declared.Query.TheVariants as query
 use Rattle.request.specs.declared.Request.{Request}
@@ -20,10 +19,6 @@ use Rattle.notation.specs.declared.names.Verb.{Verb}
 use Rattle.notation.specs.declared.names.Verb.TheVariants.{Write, Delete, Copy, Rows, Total, Shared}
 use Rattle.notation.specs.declared.stages.Stage.{Stage}
 use Rattle.notation.specs.declared.stages.Stage.TheVariants as stage
-use Rattle.notation.specs.declared.entries.View.{View}
-use Rattle.notation.specs.declared.entries.Contract.{Contract}
-use Rattle.notation.specs.declared.entries.Entry.{Entry}
-use Rattle.notation.specs.declared.entries.Entry.TheVariants as entry
 
 -- what was read is handed on, a reason leaves
 abbrev pub then : {A B E : Type 0} → Result A E → (A → Result B E) → Result B E
@@ -92,29 +87,22 @@ view_from (suc n) line place =
     cond (bytes_eq (word_at line place) (spelled name.Writes)) (Ok [])
     (then (number_at line place) (λ c. then (view_from n line (place + 1)) (λ cs. Ok (c ∷ cs))))
 
--- in sixteen places; behind the view lies 0
-abbrev pub padded : List ℕ → View
-padded view = record { places = view ++ replicate (16 - length view) 0; seen = length view }
-
--- the numbers behind `sees`
-abbrev pub view_read : List ℕ → Result View Reason
-view_read line = then (view_from 16 line 3) (λ view. Ok (padded view))
-
--- nothing twice, nothing that isn't there, and the compartment written in among them
-abbrev pub stands : ℕ → List ℕ → ℕ → Bool
-stands compartments view writes = distinct_below compartments view && has view writes
+-- what a user sees, and the compartment in which they write
+pub record Seen : Type 0 where
+  pub view : List ℕ
+  pub writes : ℕ
 
 -- .. sees VIEW writes COMPARTMENT
-abbrev pub view_said : ℕ → List ℕ → Result Contract Reason
+abbrev pub view_said : ℕ → List ℕ → Result Seen Reason
 view_said compartments line =
-    then (view_read line) (λ v.
-    then (named name.Writes line (3 + v.seen)) (λ _.
-    then (number_at line (4 + v.seen)) (λ writes.
-    then (ends line (5 + v.seen)) (λ _.
-    cond (stands compartments (take v.seen v.places) writes) (Ok (record { view = v; writes = writes })) (Err BadView)))))
+    then (view_from 16 line 3) (λ view.
+    then (named name.Writes line (3 + length view)) (λ _.
+    then (number_at line (4 + length view)) (λ writes.
+    then (ends line (5 + length view)) (λ _.
+    cond (stands compartments view writes) (Ok (record { view = view; writes = writes })) (Err BadView)))))
 
 -- user USER sees VIEW writes COMPARTMENT
-abbrev pub user_said : ℕ → ℕ → List ℕ → Result Contract Reason
+abbrev pub user_said : ℕ → ℕ → List ℕ → Result Seen Reason
 user_said user compartments line =
     then (named name.User line 0) (λ _. then (next_at user line 1) (λ _. then (named name.Sees line 2) (λ _. view_said compartments line)))
 
@@ -144,14 +132,3 @@ stage_of ns =
 -- blank, or a remark
 abbrev pub silent : List ℕ → Bool
 silent line = length (word_at line 0) == 0 || slice_index (word_at line 0) 0 == 35
-
-abbrev pub entry_at : Stage → List ℕ → Result Entry Reason
-entry_at stage.Users line = then (count_said name.Users 32 line) (λ n. Ok (entry.Count n))
-entry_at stage.Compartments line = then (count_said name.Compartments 16 line) (λ n. Ok (entry.Count n))
-entry_at (stage.User user compartments) line = then (user_said user compartments line) (λ c. Ok (entry.User c))
-entry_at (stage.Capacity compartment) line = then (capacity_said compartment line) (λ n. Ok (entry.Count n))
-entry_at stage.Requests line = then (request_said line) (λ q. Ok (entry.Request q))
-
--- what a line adds to the trace behind the numbers of the policy
-abbrev pub entry_said : List ℕ → List ℕ → Result Entry Reason
-entry_said ns line = cond (silent line) (Ok entry.Nothing) (entry_at (stage_of ns) line)

@@ -1,5 +1,6 @@
 -- How names and verbs are spelled.
-use Rattle.std.specs.Prelude.{ℕ, cond, List, Some, None, codes, Option}
+use Rattle.std.specs.Prelude.{ℕ, List, [], ◌∷◌, codes, Option}
+use Rattle.std.specs.List.{find}
 use Rattle.std.specs.Str.{bytes_eq}
 use Rattle.notation.specs.declared.names.Name.{Name}
 use Rattle.notation.specs.declared.names.Name.TheVariants.{Users, Compartments, User, Sees, Writes, Capacity}
@@ -14,11 +15,17 @@ spelled Sees = codes "sees"
 spelled Writes = codes "writes"
 spelled Capacity = codes "capacity"
 
+abbrev pub verb_spelled : Verb → List ℕ
+verb_spelled Write = codes "write"
+verb_spelled Delete = codes "delete"
+verb_spelled Copy = codes "copy"
+verb_spelled Rows = codes "rows"
+verb_spelled Total = codes "total"
+verb_spelled Shared = codes "shared"
+
+abbrev pub verbs : List Verb
+verbs = Write ∷ Delete ∷ Copy ∷ Rows ∷ Total ∷ Shared ∷ []
+
+-- the verb that the word spells
 abbrev pub verb_of : List ℕ → Option Verb
-verb_of word =
-    cond (bytes_eq word (codes "write")) (Some Write)
-    (cond (bytes_eq word (codes "delete")) (Some Delete)
-    (cond (bytes_eq word (codes "copy")) (Some Copy)
-    (cond (bytes_eq word (codes "rows")) (Some Rows)
-    (cond (bytes_eq word (codes "total")) (Some Total)
-    (cond (bytes_eq word (codes "shared")) (Some Shared) None)))))
+verb_of word = find (λ verb. bytes_eq word (verb_spelled verb)) verbs

@@ -1,15 +1,18 @@
 -- What a text says: the numbers of a policy and the requests behind it, line by line.
-use Rattle.std.specs.Prelude.{ℕ, ◌+◌, ◌-◌, List, [], ◌∷◌, ◌++◌, Some, None, Ok, Err, vec_items, Option, Result}
+use Rattle.std.specs.Prelude.{◌≡◌, ℕ, ◌+◌, ◌-◌, cond, List, [], ◌∷◌, ◌++◌, length, replicate, Ok, Err, vec_items, Result}
 use Rattle.request.specs.declared.Request.{Request}
-use Rattle.notation.specs.Lines.{then, stage_of, entry_said}
+use Rattle.notation.specs.Lines.{then, Seen, stage_of, silent, count_said, user_said, capacity_said, request_said}
 use Rattle.notation.specs.Words.{lines}
 use Rattle.notation.specs.declared.Trace.{Trace}
 use Rattle.notation.specs.declared.entries.Contract.{Contract}
 use Rattle.notation.specs.declared.entries.Entry.{Entry}
 use Rattle.notation.specs.declared.entries.Entry.TheVariants as entry
 use Rattle.notation.specs.declared.fault.Fault.{Fault}
+use Rattle.notation.specs.declared.fault.ReadError.{ReadError}
+use Rattle.notation.specs.declared.fault.ReadError.TheVariants as error
 use Rattle.notation.specs.declared.fault.Reason.{Reason}
 use Rattle.notation.specs.declared.fault.Reason.TheVariants.{Unfinished}
+use Rattle.notation.specs.declared.names.Name.TheVariants as name
 use Rattle.notation.specs.declared.stages.Stage.{Stage}
 use Rattle.notation.specs.declared.stages.Stage.TheVariants as stage
 
@@ -20,25 +23,47 @@ pub record Said : Type 0 where
 abbrev pub said_of : Trace → Said
 said_of trace = record { numbers = vec_items trace.numbers; requests = vec_items trace.requests }
 
--- the eighteen numbers of a user: how many compartments they see, sixteen places for them, and the one in which they write
-abbrev pub contract_numbers : Contract → List ℕ
-contract_numbers c = c.view.seen ∷ (c.view.places ++ c.writes ∷ [])
+-- the eighteen numbers of a user: how many compartments they see, sixteen places for them, and the one in which they write;
+-- behind the view lies 0
+abbrev pub padded : List ℕ → List ℕ
+padded view = view ++ replicate (16 - length view) 0
 
--- the numbers of the policy that a line adds, and the requests
-abbrev pub numbers_added : Entry → List ℕ
-numbers_added entry.Nothing = []
-numbers_added (entry.Count n) = n ∷ []
-numbers_added (entry.User c) = contract_numbers c
-numbers_added (entry.Request q) = []
+abbrev pub contract_numbers : Seen → List ℕ
+contract_numbers c = length c.view ∷ (padded c.view ++ c.writes ∷ [])
 
-abbrev pub requests_added : Entry → List Request
-requests_added entry.Nothing = []
-requests_added (entry.Count n) = []
-requests_added (entry.User c) = []
-requests_added (entry.Request q) = q ∷ []
+abbrev pub nothing : Said
+nothing = record { numbers = []; requests = [] }
 
-abbrev pub added : Said → Entry → Said
-added said e = record { numbers = said.numbers ++ numbers_added e; requests = said.requests ++ requests_added e }
+abbrev pub of_numbers : List ℕ → Said
+of_numbers ns = record { numbers = ns; requests = [] }
+
+abbrev pub of_request : Request → Said
+of_request q = record { numbers = []; requests = q ∷ [] }
+
+-- what a line adds at a stage of the policy
+abbrev pub entry_at : Stage → List ℕ → Result Said Reason
+entry_at stage.Users line = then (count_said name.Users 32 line) (λ n. Ok (of_numbers (n ∷ [])))
+entry_at stage.Compartments line = then (count_said name.Compartments 16 line) (λ n. Ok (of_numbers (n ∷ [])))
+entry_at (stage.User user compartments) line = then (user_said user compartments line) (λ c. Ok (of_numbers (contract_numbers c)))
+entry_at (stage.Capacity compartment) line = then (capacity_said compartment line) (λ n. Ok (of_numbers (n ∷ [])))
+entry_at stage.Requests line = then (request_said line) (λ q. Ok (of_request q))
+
+-- what a line adds behind the numbers of the policy
+abbrev pub entry_said : List ℕ → List ℕ → Result Said Reason
+entry_said ns line = cond (silent line) (Ok nothing) (entry_at (stage_of ns) line)
+
+-- what the code keeps of a line
+abbrev pub seen_of : Contract → Seen
+seen_of c = record { view = c.view.items; writes = c.writes }
+
+abbrev pub adds : Entry → Said
+adds entry.Nothing = nothing
+adds (entry.Count n) = of_numbers (n ∷ [])
+adds (entry.User c) = of_numbers (contract_numbers (seen_of c))
+adds (entry.Request q) = of_request q
+
+abbrev pub added : Said → Said → Said
+added said more = record { numbers = said.numbers ++ more.numbers; requests = said.requests ++ more.requests }
 
 abbrev pub line_said : Said → List ℕ → Result Said Reason
 line_said said line = then (entry_said said.numbers line) (λ e. Ok (added said e))
@@ -64,21 +89,15 @@ abbrev pub lines_said : ℕ → Said → List (List ℕ) → Result Said Fault
 lines_said n said [] = at_line (n - 1) (whole said)
 lines_said n said (line ∷ lines) = then (at_line n (line_said said line)) (λ more. lines_said (n + 1) more lines)
 
-abbrev pub nothing : Said
-nothing = record { numbers = []; requests = [] }
-
 abbrev pub trace_in : List ℕ → Result Said Fault
 trace_in text = lines_said 1 nothing (lines text)
 
--- what was read, or why not
-abbrev pub held : Result Trace Fault → Result Said Fault
-held (Ok trace) = Ok (said_of trace)
-held (Err fault) = Err fault
+-- a fault is what the text has; where there is no memory, nothing is promised
+abbrev pub Fails : ReadError → Result Said Fault → Type 0
+Fails (error.Fault fault) all = Err fault ≡ all
+Fails error.OutOfMemory all = Unit {0}
 
-abbrev pub unless : {E : Type 0} → Option E → Said → Result Said E
-unless None said = Ok said
-unless (Some e) said = Err e
-
-abbrev pub fault_at : ℕ → Option Reason → Option Fault
-fault_at n None = None
-fault_at n (Some reason) = Some (record { line = n; reason = reason })
+-- what is told of a text is what it says, or its fault
+abbrev pub Tells : {A : Type 0} → (A → Said) → Result A ReadError → Result Said Fault → Type 0
+Tells said (Ok x) all = Ok (said x) ≡ all
+Tells said (Err e) all = Fails e all

@@ -1,27 +1,21 @@
 // What a line adds to a trace.
-ghost use Rattle.notation.specs.Lines.{capacity_said, count_said, entry_at, entry_said, silent};
-ghost use Rattle.std.specs.Prelude.{◌≡◌};
+ghost use Rattle.notation.specs.Lines.{capacity_said, count_said, then};
+ghost use Rattle.notation.specs.Said.{adds, entry_at, entry_said};
+ghost use Rattle.std.specs.Prelude.{◌≡◌, Ok};
 
 use crate::fault::Reason;
+use crate::line::Line;
 use crate::names::Name;
-use crate::numbers::{ends, named, next_at, within};
 use crate::requests::request_in;
 use crate::stages::{Stage, stage_of};
 use crate::users::user_in;
-use crate::words::word_at;
+use policy::ArrayList;
 use request::Request;
-
-// The compartments that a user sees: the first `seen` places; behind them lies 0.
-#[derive(Clone, Copy)]
-pub(crate) struct View {
-    pub(crate) places: [u64; 16],
-    pub(crate) seen: usize,
-}
 
 // What a user sees, and the compartment in which they write.
 #[derive(Clone, Copy)]
 pub(crate) struct Contract {
-    pub(crate) view: View,
+    pub(crate) view: ArrayList<u64, 16>,
     pub(crate) writes: u64,
 }
 
@@ -34,35 +28,27 @@ pub(crate) enum Entry {
     Request(Request),
 }
 
-// A blank line, or a remark.
-fn is_silent(line: &[u8]) -> bool
-    ensures { result ≡ silent line.now }
+fn count_in(line: Line, name: Name, high: u64) -> Result<u64, Reason>
+    ensures { result ≡ count_said name high line.entry.bytes.now }
 {
-    let word = word_at(line, 0);
-    word.is_empty() || word[0] == b'#'
-}
-
-fn count_in(line: &[u8], name: Name, high: u64) -> Result<u64, Reason>
-    ensures { result ≡ count_said name high line.now }
-{
-    named(line, 0, name)?;
-    let count = within(line, 1, 1, high)?;
-    ends(line, 2)?;
+    line.named(0, name)?;
+    let count = line.within(1, 1, high)?;
+    line.ends(2)?;
     Ok(count)
 }
 
-fn capacity_in(line: &[u8], compartment: usize) -> Result<u64, Reason>
-    ensures { result ≡ capacity_said compartment line.now }
+fn capacity_in(line: Line, compartment: usize) -> Result<u64, Reason>
+    ensures { result ≡ capacity_said compartment line.entry.bytes.now }
 {
-    named(line, 0, Name::Capacity)?;
-    next_at(line, 1, compartment)?;
-    let capacity = within(line, 2, 1, 64)?;
-    ends(line, 3)?;
+    line.named(0, Name::Capacity)?;
+    line.next(1, compartment)?;
+    let capacity = line.within(2, 1, 64)?;
+    line.ends(3)?;
     Ok(capacity)
 }
 
-fn entry_at(line: &[u8], stage: Stage) -> Result<Entry, Reason>
-    ensures { result ≡ entry_at stage line.now }
+fn entry_at(line: Line, stage: Stage) -> Result<Entry, Reason>
+    ensures { then result (λ e. Ok (adds e)) ≡ entry_at stage line.entry.bytes.now }
 {
     match stage {
         Stage::Users => {
@@ -88,10 +74,10 @@ fn entry_at(line: &[u8], stage: Stage) -> Result<Entry, Reason>
     }
 }
 
-pub(crate) fn entry_in(numbers: &[u64], line: &[u8]) -> Result<Entry, Reason>
-    ensures { result ≡ entry_said numbers.now line.now }
+pub(crate) fn entry_in(numbers: &[u64], line: Line) -> Result<Entry, Reason>
+    ensures { then result (λ e. Ok (adds e)) ≡ entry_said numbers.now line.entry.bytes.now }
 {
-    if is_silent(line) {
+    if line.is_silent() {
         Ok(Entry::Nothing)
     } else {
         entry_at(line, stage_of(numbers))

@@ -1,8 +1,15 @@
 // Why a text is no trace.
+ghost use Rattle.notation.specs.Faults.{error_bytes, fault_bytes, reason_bytes};
+ghost use Rattle.notation.specs.declared.fault.ReadError.TheVariants as error;
+ghost use Rattle.std.specs.Prelude.{◌≡◌, Some};
+
 use crate::names::Name;
+use std::alloc::AllocError;
+use std::error::Error;
+use std::fmt;
 
 // Why a line can't be read. Words count from 1.
-#[derive(Clone, Copy)]
+#[derive(Clone, Copy, PartialEq, Eq, Debug)]
 pub enum Reason {
     // Another word should stand there.
     Expected { name: Name },
@@ -19,11 +26,72 @@ pub enum Reason {
     Unfinished,
 }
 
+impl fmt::Display for Reason {
+    ghost output = { λ r. Some (reason_bytes r) };
+
+    fn fmt<W: fmt::Write>(&self, f: &mut fmt::Formatter<W>) -> fmt::Result {
+        match self {
+            Reason::Expected { name } => write!(f, "expected {name}"),
+            Reason::NotNext { next } => write!(f, "expected number {next}"),
+            Reason::NoVerb => write!(f, "no such request"),
+            Reason::NoNumber { word } => write!(f, "word {word} is no number"),
+            Reason::OutOfBounds { word } => write!(f, "word {word} is out of bounds"),
+            Reason::TooLong { word } => write!(f, "word {word} is too many"),
+            Reason::BadView => write!(f, "no such view"),
+            Reason::Unfinished => write!(f, "the policy is cut short"),
+        }
+    }
+}
+
 // The line that can't be read, counted from 1, and why.
-#[derive(Clone, Copy)]
+#[derive(Clone, Copy, PartialEq, Eq, Debug)]
 pub struct Fault {
     pub line: usize,
     pub reason: Reason,
 }
 
-mod shown;
+impl fmt::Display for Fault {
+    ghost output = { λ t. Some (fault_bytes t) };
+
+    fn fmt<W: fmt::Write>(&self, f: &mut fmt::Formatter<W>) -> fmt::Result {
+        let line = self.line;
+        let reason = self.reason;
+        write!(f, "line {line}: {reason}")
+    }
+}
+
+// Why a text is not read.
+#[derive(Clone, Copy, PartialEq, Eq, Debug)]
+pub enum ReadError {
+    Fault(Fault),
+    OutOfMemory,
+}
+
+impl fmt::Display for ReadError {
+    ghost output = { λ e. Some (error_bytes e) };
+
+    fn fmt<W: fmt::Write>(&self, f: &mut fmt::Formatter<W>) -> fmt::Result {
+        match self {
+            ReadError::Fault(fault) => write!(f, "{fault}"),
+            ReadError::OutOfMemory => write!(f, "out of memory"),
+        }
+    }
+}
+
+impl Error for ReadError {}
+
+impl From<Fault> for ReadError {
+    ghost from_gives = { λ fault e. e ≡ error.Fault fault };
+
+    fn from(fault: Fault) -> Self {
+        Self::Fault(fault)
+    }
+}
+
+impl From<AllocError> for ReadError {
+    ghost from_gives = { λ _ e. e ≡ error.OutOfMemory };
+
+    fn from(_error: AllocError) -> Self {
+        Self::OutOfMemory
+    }
+}

@@ -1,23 +1,22 @@
 // Traces as text: what a text says is read into a trace, and a trace is written in bytes.
 #![tactic(auto)]
 
-ghost use Rattle.notation.specs.Said.{held, said_of, trace_in};
+ghost use Rattle.notation.specs.Said.{Tells, said_of, trace_in};
 ghost use Rattle.notation.specs.Bytes.{trace_bytes};
 ghost use Rattle.std.specs.Prelude.{◌≡◌, IfOk};
 
 mod entries;
 mod fault;
 mod laws;
+mod line;
 mod names;
-mod numbers;
 mod reading;
 mod requests;
 mod stages;
 mod users;
-mod words;
 mod writing;
 
-pub use fault::{Fault, Reason};
+pub use fault::{Fault, ReadError, Reason};
 pub use laws::reads_back_stands;
 pub use names::Name;
 use reading::read_lines;
@@ -33,17 +32,15 @@ pub struct Trace {
 }
 
 // What the text says, or the first line that can't be read, and why.
-pub fn read(heap: Global, text: &[u8]) -> Result<Result<Trace, Fault>, AllocError>
-    ensures { IfOk result (λ x. held x ≡ trace_in text.now) }
+pub fn read(heap: Global, text: &[u8]) -> Result<Trace, ReadError>
+    ensures { Tells said_of result (trace_in text.now) }
 {
     let mut trace = Trace {
         numbers: Vec::new(heap),
         requests: Vec::new(heap),
     };
-    match read_lines(&mut trace, text)? {
-        Some(fault) => Ok(Err(fault)),
-        None => Ok(Ok(trace)),
-    }
+    read_lines(&mut trace, text)?;
+    Ok(trace)
 }
 
 // The bytes of a trace.

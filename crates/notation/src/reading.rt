@@ -1,28 +1,31 @@
 // Reading a text line by line.
-ghost use Rattle.notation.specs.Said.{added, fault_at, line_said, lines_said, said_of, unless, whole};
+ghost use Rattle.notation.specs.Lines.{then};
+ghost use Rattle.notation.specs.Said.{Tells, added, adds, at_line, line_said, lines_said, said_of, whole};
 ghost use Rattle.notation.specs.Words.{lines};
-ghost use Rattle.std.specs.Prelude.{◌≡◌, IfOk, OnOk};
+ghost use Rattle.std.specs.Prelude.{◌≡◌, Ok, OnOk};
 
 use crate::Trace;
 use crate::entries::{Contract, Entry, entry_in};
-use crate::fault::{Fault, Reason};
+use crate::fault::{Fault, ReadError, Reason};
+use crate::line::Line;
 use crate::stages::{Stage, stage_of};
-use crate::words::{Kind, stretch};
 use std::alloc::AllocError;
 
-// Adds what a user's line says.
+// Adds what a user's line says: behind the view lies 0, up to sixteen places.
 fn add_contract(trace: &mut Trace, contract: Contract) -> Result<(), AllocError>
-    ensures { OnOk result (said_of trace.new ≡ added (said_of trace.old) (Entry.User contract)) }
+    ensures { OnOk result (said_of trace.new ≡ added (said_of trace.old) (adds (Entry.User contract))) }
 {
-    trace.numbers.push(contract.view.seen as u64)?;
-    trace.numbers.extend_from_slice(&contract.view.places)?;
+    let view = contract.view.as_slice();
+    trace.numbers.push(view.len() as u64)?;
+    trace.numbers.extend_from_slice(view)?;
+    trace.numbers.extend_from_slice(&[0; 16][view.len()..])?;
     trace.numbers.push(contract.writes)?;
     Ok(())
 }
 
 // Adds what a line says.
 fn add(trace: &mut Trace, entry: Entry) -> Result<(), AllocError>
-    ensures { OnOk result (said_of trace.new ≡ added (said_of trace.old) entry) }
+    ensures { OnOk result (said_of trace.new ≡ added (said_of trace.old) (adds entry)) }
 {
     match entry {
         Entry::Nothing => {}
@@ -33,56 +36,42 @@ fn add(trace: &mut Trace, entry: Entry) -> Result<(), AllocError>
     Ok(())
 }
 
-// Adds what a line says, or says why it can't be read.
-fn read_line(trace: &mut Trace, line: &[u8]) -> Result<Option<Reason>, AllocError>
-    ensures { IfOk result (λ why. unless why (said_of trace.new) ≡ line_said (said_of trace.old) line.now) }
+// Adds what the line of this number says, or says why it can't be read.
+fn read_line(trace: &mut Trace, number: usize, line: Line) -> Result<(), ReadError>
+    ensures { Tells (λ _. said_of trace.new) result (at_line number (line_said (said_of trace.old) line.entry.bytes.now)) }
 {
-    match entry_in(trace.numbers.as_slice(), line) {
-        Ok(entry) => {
-            add(trace, entry)?;
-            Ok(None)
-        }
-        Err(reason) => Ok(Some(reason)),
-    }
+    let entry = entry_in(trace.numbers.as_slice(), line).map_err(|reason| Fault {
+        line: number,
+        reason,
+    })?;
+    add(trace, entry)?;
+    Ok(())
 }
 
-// Why the text may not end here.
-fn unfinished(trace: &Trace) -> Option<Reason>
-    ensures { unless result (said_of trace.now) ≡ whole (said_of trace.now) }
+// Whether the text may end behind the line of this number.
+fn whole(trace: &Trace, number: usize) -> Result<(), Fault>
+    ensures { then result (λ _. Ok (said_of trace.now)) ≡ at_line number (whole (said_of trace.now)) }
 {
     match stage_of(trace.numbers.as_slice()) {
-        Stage::Users => Some(Reason::Unfinished),
-        Stage::Compartments => Some(Reason::Unfinished),
-        Stage::User { .. } => Some(Reason::Unfinished),
-        Stage::Capacity { .. } => Some(Reason::Unfinished),
-        Stage::Requests => None,
+        Stage::Users | Stage::Compartments | Stage::User { .. } | Stage::Capacity { .. } => {
+            Err(Fault {
+                line: number,
+                reason: Reason::Unfinished,
+            })
+        }
+        Stage::Requests => Ok(()),
     }
 }
 
-fn at_line(line: usize, reason: Option<Reason>) -> Option<Fault>
-    ensures { result ≡ fault_at line reason }
+// Adds what the lines of a text say, or says which is the first that can't be read.
+pub(crate) fn read_lines(trace: &mut Trace, text: &[u8]) -> Result<(), ReadError>
+    ensures { Tells (λ _. said_of trace.new) result (lines_said 1 (said_of trace.old) (lines text.now)) }
 {
-    match reason {
-        Some(reason) => Some(Fault { line, reason }),
-        None => None,
+    let mut last = 0;
+    for (i, bytes) in text.split(|byte| *byte == b'\n').enumerate() {
+        last = i + 1;
+        read_line(trace, last, Line { bytes })?;
     }
-}
-
-// Adds what the lines of a text say, up to the first that can't be read.
-pub(crate) fn read_lines(trace: &mut Trace, text: &[u8]) -> Result<Option<Fault>, AllocError>
-    ensures { IfOk result (λ why. unless why (said_of trace.new) ≡ lines_said 1 (said_of trace.old) (lines text.now)) }
-{
-    let mut at = 0;
-    let mut line = 1;
-    loop {
-        let end = at + stretch(Kind::Line, &text[at..]);
-        if let Some(reason) = read_line(trace, &text[at..end])? {
-            return Ok(Some(Fault { line, reason }));
-        }
-        if end == text.len() {
-            return Ok(at_line(line, unfinished(trace)));
-        }
-        at = end + 1;
-        line += 1;
-    }
+    whole(trace, last)?;
+    Ok(())
 }

@@ -1,70 +1,58 @@
 // The request that a line says.
-ghost use Rattle.std.specs.Prelude.{◌≡◌, ◌+◌, ◌^◌, ◌<◌};
-ghost use Rattle.notation.specs.Lines.{asked, compartment_at, key_at, range_at, request_said, shared_said, verb_at};
+ghost use Rattle.std.specs.Prelude.{◌≡◌, ◌<◌};
+ghost use Rattle.notation.specs.Lines.{asked, key_at, range_at, request_said, shared_said, within};
 
 use crate::fault::Reason;
+use crate::line::Line;
 use crate::names::Verb;
-use crate::names::spelled::verb_of;
-use crate::numbers::{ends, within};
-use crate::words::word_at;
 use query::Query;
 use request::Request;
 use rows::{KeyRange, Row};
 
-fn verb_at(line: &[u8], place: usize) -> Result<Verb, Reason>
-    ensures { result ≡ verb_at line.now place }
+// The number of a user or a compartment, from 0 up to this one.
+fn up_to<const HIGH: u64>(line: Line, place: u8) -> Result<usize, Reason>
+    ensures { result ≡ within 0 HIGH line.entry.bytes.now place }
 {
-    let Some(verb) = verb_of(word_at(line, place)) else {
-        return Err(Reason::NoVerb);
-    };
-    Ok(verb)
-}
-
-fn compartment_at(line: &[u8], place: usize) -> Result<usize, Reason>
-    requires { place < 2 ^ 32 }
-    ensures { result ≡ compartment_at line.now place }
-{
-    let compartment = within(line, place, 0, 15)?;
-    Ok(compartment as usize)
+    let number = line.within(place, 0, HIGH)?;
+    Ok(number as usize)
 }
 
 // A key or an amount.
-fn key_at(line: &[u8], place: usize) -> Result<u32, Reason>
-    requires { place < 2 ^ 32 }
-    ensures { result ≡ key_at line.now place }
+fn key_at(line: Line, place: u8) -> Result<u32, Reason>
+    ensures { result ≡ key_at line.entry.bytes.now place }
 {
-    let key = within(line, place, 0, 0xffff_ffff)?;
+    let key = line.within(place, 0, 0xffff_ffff)?;
     Ok(key as u32)
 }
 
 // The last two numbers of a line.
-fn range_at(line: &[u8], place: usize) -> Result<KeyRange, Reason>
-    requires { place < 2 ^ 31 }
-    ensures { result ≡ range_at line.now place }
+fn range_at(line: Line, place: u8) -> Result<KeyRange, Reason>
+    requires { place < 254 }
+    ensures { result ≡ range_at line.entry.bytes.now place }
 {
     let from = key_at(line, place)?;
     let to = key_at(line, place + 1)?;
-    ends(line, place + 2)?;
+    line.ends(place + 2)?;
     Ok(KeyRange { from, to })
 }
 
-pub(crate) fn request_in(line: &[u8]) -> Result<Request, Reason>
-    ensures { result ≡ request_said line.now }
+pub(crate) fn request_in(line: Line) -> Result<Request, Reason>
+    ensures { result ≡ request_said line.entry.bytes.now }
 {
-    let user = within(line, 0, 0, 31)?;
-    let verb = verb_at(line, 1)?;
-    asked(line, user as usize, verb)
+    let user = up_to::<31>(line, 0)?;
+    let verb = line.verb(1)?;
+    asked(line, user, verb)
 }
 
 // What the user asks for, behind the verb.
-fn asked(line: &[u8], user: usize, verb: Verb) -> Result<Request, Reason>
-    ensures { result ≡ asked verb user line.now }
+fn asked(line: Line, user: usize, verb: Verb) -> Result<Request, Reason>
+    ensures { result ≡ asked verb user line.entry.bytes.now }
 {
     match verb {
         Verb::Write => {
             let key = key_at(line, 2)?;
             let amount = key_at(line, 3)?;
-            ends(line, 4)?;
+            line.ends(4)?;
             Ok(Request::Write {
                 user,
                 row: Row { key, amount },
@@ -72,11 +60,11 @@ fn asked(line: &[u8], user: usize, verb: Verb) -> Result<Request, Reason>
         }
         Verb::Delete => {
             let key = key_at(line, 2)?;
-            ends(line, 3)?;
+            line.ends(3)?;
             Ok(Request::Delete { user, key })
         }
         Verb::Copy => {
-            let compartment = compartment_at(line, 2)?;
+            let compartment = up_to::<15>(line, 2)?;
             let range = range_at(line, 3)?;
             Ok(Request::Copy {
                 user,
@@ -101,11 +89,11 @@ fn asked(line: &[u8], user: usize, verb: Verb) -> Result<Request, Reason>
     }
 }
 
-fn shared(line: &[u8]) -> Result<Query, Reason>
-    ensures { result ≡ shared_said line.now }
+fn shared(line: Line) -> Result<Query, Reason>
+    ensures { result ≡ shared_said line.entry.bytes.now }
 {
-    let a = compartment_at(line, 2)?;
-    let b = compartment_at(line, 3)?;
+    let a = up_to::<15>(line, 2)?;
+    let b = up_to::<15>(line, 3)?;
     let range = range_at(line, 4)?;
     Ok(Query::Shared { a, b, range })
 }

@@ -1,6 +1,6 @@
 // What comes next in a text, by the numbers of the policy so far.
 ghost use Rattle.notation.specs.Lines.{single_numbers, stage_of};
-ghost use Rattle.std.specs.Prelude.{◌≡◌, slice_index};
+ghost use Rattle.std.specs.Prelude.{◌≡◌};
 
 // What comes next.
 #[derive(Clone, Copy)]
@@ -12,22 +12,12 @@ pub(crate) enum Stage {
     Requests,
 }
 
-// A missing number counts as 0.
-fn number_or_0(numbers: &[u64], place: usize) -> u64
-    ensures { result ≡ slice_index numbers.now place }
-{
-    if place < numbers.len() {
-        numbers[place]
-    } else {
-        0
-    }
-}
-
 // How many numbers of a policy are a byte each.
 pub(crate) fn single_numbers(numbers: &[u64]) -> usize
     ensures { result ≡ single_numbers numbers.now }
 {
-    let users = number_or_0(numbers, 0);
+    // A missing number counts as 0.
+    let users = numbers.first().copied().unwrap_or(0);
     if users > 32 {
         2
     } else {

@@ -1,81 +1,50 @@
 // A user's contract, from a line.
-ghost use Rattle.std.specs.Prelude.{◌≡◌, ◌≤◌, IfOk};
-ghost use Rattle.notation.specs.Lines.{stands, user_said, view_read, view_said};
-ghost use Rattle.policy.specs.Rules.{has};
-ghost use Rattle.policy.specs.Views.{distinct_below};
+ghost use Rattle.std.specs.Prelude.{◌≡◌, ◌≤◌, length, Ok, IfOk};
+ghost use Rattle.notation.specs.Lines.{then, user_said, view_from, view_said};
+ghost use Rattle.notation.specs.Said.{seen_of};
 
-use crate::entries::{Contract, View};
+use crate::entries::Contract;
 use crate::fault::Reason;
+use crate::line::Line;
 use crate::names::Name;
-use crate::names::spelled::is_named;
-use crate::numbers::{ends, named, next_at, number_at};
-use crate::words::word_at;
+use policy::{ArrayList, is_view};
 
 // The numbers behind `sees`, up to the word `writes`.
-fn view_in(line: &[u8]) -> Result<View, Reason>
-    ensures value { result ≡ view_read line.now }
-    ensures few { IfOk result (λ v. v.seen ≤ 16) }
+fn view_in(line: Line) -> Result<ArrayList<u64, 16>, Reason>
+    ensures value { then result (λ view. Ok view.items) ≡ view_from 16 line.entry.bytes.now 3 }
+    ensures few { IfOk result (λ view. length view.items ≤ 16) }
 {
-    let mut places = [0; 16];
-    for i in 0..16 {
-        if is_named(word_at(line, 3 + i), Name::Writes) {
-            return Ok(View { places, seen: i });
+    let mut view = ArrayList::new(0);
+    for place in 3..19 {
+        if line.is_named(place, Name::Writes) {
+            return Ok(view);
         }
-        places[i] = number_at(line, 3 + i)?;
+        view.push(line.number(place)?).unwrap();
     }
-    Ok(View { places, seen: 16 })
-}
-
-fn contains(view: &[u64], compartment: u64) -> bool
-    ensures { result ≡ has view.now compartment }
-{
-    for seen in view {
-        if *seen == compartment {
-            return true;
-        }
-    }
-    false
-}
-
-fn distinct(view: &[u64], compartments: u64) -> bool
-    ensures { result ≡ distinct_below compartments view.now }
-{
-    for i in 0..view.len() {
-        if view[i] >= compartments || contains(&view[i + 1..], view[i]) {
-            return false;
-        }
-    }
-    true
-}
-
-// Nothing twice, nothing that isn't there, and the compartment written in among them.
-fn stands(view: &[u64], compartments: u64, writes: u64) -> bool
-    ensures { result ≡ stands compartments view.now writes }
-{
-    distinct(view, compartments) && contains(view, writes)
+    Ok(view)
 }
 
 // What stands behind `sees`.
-fn seen_in(line: &[u8], compartments: u64) -> Result<Contract, Reason>
-    ensures { result ≡ view_said compartments line.now }
+fn seen_in(line: Line, compartments: u64) -> Result<Contract, Reason>
+    ensures { then result (λ c. Ok (seen_of c)) ≡ view_said compartments line.entry.bytes.now }
 {
     let view = view_in(line)?;
-    let seen = view.seen;
-    named(line, 3 + seen, Name::Writes)?;
-    let writes = number_at(line, 4 + seen)?;
-    ends(line, 5 + seen)?;
-    if stands(&view.places[0..seen], compartments, writes) {
+    let place = 3 + view.as_slice().len() as u8;
+    line.named(place, Name::Writes)?;
+    let writes = line.number(place + 1)?;
+    line.ends(place + 2)?;
+    if is_view(view.as_slice(), compartments, writes) {
         Ok(Contract { view, writes })
     } else {
         Err(Reason::BadView)
     }
 }
 
-pub(crate) fn user_in(line: &[u8], user: usize, compartments: u64) -> Result<Contract, Reason>
-    ensures { result ≡ user_said user compartments line.now }
+pub(crate) fn user_in(line: Line, user: usize, compartments: u64) -> Result<Contract, Reason>
+    ensures { then result (λ c. Ok (seen_of c)) ≡ user_said user compartments line.entry.bytes.now }
 {
-    named(line, 0, Name::User)?;
-    next_at(line, 1, user)?;
-    named(line, 2, Name::Sees)?;
+    line.named(0, Name::User)?;
+    line.next(1, user)?;
+    line.named(2, Name::Sees)?;
     seen_in(line, compartments)
 }

@@ -8,7 +8,7 @@ ghost use Rattle.wire.specs.Written.{low_bytes, written};
 use crate::Trace;
 use crate::stages::single_numbers;
 use query::Query;
-use request::Request;
+use request::{Kind, QueryKind, Request};
 use std::alloc::AllocError;
 
 // How many of the numbers that are there are a byte each.
@@ -24,11 +24,9 @@ fn push_number(bytes: &mut Vec<u8>, width: usize, number: u64) -> Result<(), All
     ensures { OnOk result (bytes.new.items ≡ bytes.old.items ++ low_bytes width number) }
 {
     let mut rest = number;
-    let mut left = width;
-    while 0 < left {
+    for _ in 0..width {
         bytes.push((rest % 256) as u8)?;
         rest /= 256;
-        left -= 1;
     }
     Ok(())
 }
@@ -58,18 +56,18 @@ fn push_query(bytes: &mut Vec<u8>, user: u64, query: Query) -> Result<(), AllocE
     match query {
         Query::Rows { range } => push_parts(
             bytes,
-            &[3, user, 0],
-            &[range.from as u64, range.to as u64],
+            &[Kind::Query.into(), user, QueryKind::Rows.into()],
+            &[range.from.into(), range.to.into()],
         ),
         Query::Total { range } => push_parts(
             bytes,
-            &[3, user, 1],
-            &[range.from as u64, range.to as u64],
+            &[Kind::Query.into(), user, QueryKind::Total.into()],
+            &[range.from.into(), range.to.into()],
         ),
         Query::Shared { a, b, range } => push_parts(
             bytes,
-            &[3, user, 2],
-            &[a as u64, b as u64, range.from as u64, range.to as u64],
+            &[Kind::Query.into(), user, QueryKind::Shared.into()],
+            &[a as u64, b as u64, range.from.into(), range.to.into()],
         ),
     }
 }
@@ -80,18 +78,22 @@ fn push_request(bytes: &mut Vec<u8>, request: Request) -> Result<(), AllocError>
     match request {
         Request::Write { user, row } => push_parts(
             bytes,
-            &[0, user as u64],
-            &[row.key as u64, row.amount as u64],
+            &[Kind::Write.into(), user as u64],
+            &[row.key.into(), row.amount.into()],
         ),
-        Request::Delete { user, key } => push_parts(bytes, &[1, user as u64], &[key as u64]),
+        Request::Delete { user, key } => push_parts(
+            bytes,
+            &[Kind::Delete.into(), user as u64],
+            &[key.into()],
+        ),
         Request::Copy {
             user,
             compartment,
             range,
         } => push_parts(
             bytes,
-            &[2, user as u64],
-            &[compartment as u64, range.from as u64, range.to as u64],
+            &[Kind::Copy.into(), user as u64],
+            &[compartment as u64, range.from.into(), range.to.into()],
         ),
         Request::Query { user, query } => push_query(bytes, user as u64, query),
     }

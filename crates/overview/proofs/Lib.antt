@@ -1,3 +1,3 @@
-pub mod Joining
-pub mod Parts
+pub mod Listing
+pub mod There
 pub mod Proved

@@ -6,7 +6,7 @@ use Rattle.policy.specs.Rules.{has, flows}
 use Rattle.policy.proofs.Proved.{flows_both_ways}
 use Rattle.overview.specs.Laws.{FlowsShown}
 use Rattle.overview.specs.Shown.{shows_flow}
-use Rattle.overview.specs.declared.form.Form.TheVariants.{Table, Graph}
+use Rattle.overview.specs.Forms.{table, graph}
 
 -- of a count, what passes a test is kept
 kept_has : (test : ℕ → Bool) (i n b : ℕ) → has (filter test (range_with_len i n)) b ≡ true → (i ≤ b) × (b < i + n) × (test b ≡ true)
@@ -30,13 +30,13 @@ has_kept test i (suc n) b l h t = elim (cases_eq i b) [
 
 pub flows_shown_stands : FlowsShown
 flows_shown_stands p n a b = (
-  λ e. let k = kept_has (shows_flow Table p a) 0 n b e in (omega (arith, k.1), (flows_both_ways p a b).0 k.2),
-  λ h. has_kept (shows_flow Table p a) 0 n b (omega arith) (omega (arith, h.0)) ((flows_both_ways p a b).1 h.1),
+  λ e. let k = kept_has (shows_flow table p a) 0 n b e in (omega (arith, k.1), (flows_both_ways p a b).0 k.2),
+  λ h. has_kept (shows_flow table p a) 0 n b (omega arith) (omega (arith, h.0)) ((flows_both_ways p a b).1 h.1),
   λ e.
-      let k = kept_has (shows_flow Graph p a) 0 n b e in
+      let k = kept_has (shows_flow graph p a) 0 n b e in
       let parts = and_parts (not (eqb a b)) (flows p a b) k.2 in
       (omega (arith, k.1), eqb-false a b (not-true (eqb a b) parts.0), (flows_both_ways p a b).0 parts.1),
   λ h.
       let apart : not (eqb a b) ≡ true = rw (ne_eqb a b h.1) refl in
-      has_kept (shows_flow Graph p a) 0 n b (omega arith) (omega (arith, h.0)) (and_from (not (eqb a b)) (flows p a b) apart ((flows_both_ways p a b).1 h.2)),
+      has_kept (shows_flow graph p a) 0 n b (omega arith) (omega (arith, h.0)) (and_from (not (eqb a b)) (flows p a b) apart ((flows_both_ways p a b).1 h.2)),
 )

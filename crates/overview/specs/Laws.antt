@@ -2,7 +2,7 @@
 use Rattle.std.specs.Prelude.{◌≡◌, ℕ, ◌<◌, true, ◌≢◌}
 use Rattle.policy.specs.Rules.{Rules, has, sees}
 use Rattle.overview.specs.Shown.{flows_shown}
-use Rattle.overview.specs.declared.form.Form.TheVariants.{Table, Graph}
+use Rattle.overview.specs.Forms.{table, graph}
 
 -- everybody who sees b sees a
 abbrev pub SeenWith : Rules → ℕ → ℕ → Type 0
@@ -12,7 +12,7 @@ SeenWith p a b = (u : ℕ) → u < p.users → sees p u b ≡ true → sees p u 
 -- from a to b exactly if they are two besides
 abbrev pub FlowsShown : Type 0
 FlowsShown = (p : Rules) (n a b : ℕ) →
-    (has (flows_shown Table p n a) b ≡ true → (b < n) × SeenWith p a b)
-    × ((b < n) × SeenWith p a b → has (flows_shown Table p n a) b ≡ true)
-    × (has (flows_shown Graph p n a) b ≡ true → (b < n) × (a ≢ b) × SeenWith p a b)
-    × ((b < n) × (a ≢ b) × SeenWith p a b → has (flows_shown Graph p n a) b ≡ true)
+    (has (flows_shown table p n a) b ≡ true → (b < n) × SeenWith p a b)
+    × ((b < n) × SeenWith p a b → has (flows_shown table p n a) b ≡ true)
+    × (has (flows_shown graph p n a) b ≡ true → (b < n) × (a ≢ b) × SeenWith p a b)
+    × ((b < n) × (a ≢ b) × SeenWith p a b → has (flows_shown graph p n a) b ≡ true)

@@ -1,3 +1,3 @@
-pub mod Pieces
+pub mod Forms
 pub mod Shown
 pub mod Laws

@@ -8,16 +8,15 @@ ghost use Rattle.policy.specs.Access.{rules_of};
 mod compartments;
 mod form;
 pub mod laws;
-mod pieces;
 #[cfg(test)]
 mod tests;
 mod users;
 
 use compartments::push_compartments;
-use form::Form;
-use pieces::{Piece, push};
+use form::{Graph, Table};
 use policy::Policy;
 use std::alloc::{AllocError, Global};
+use std::fmt::Write;
 use users::push_users;
 
 // A line for each user, then one for each compartment.
@@ -25,8 +24,8 @@ pub fn table(heap: Global, policy: &Policy) -> Result<String, AllocError>
     ensures { IfOk result (λ t. string_bytes t ≡ table_bytes (rules_of policy.now) policy.now.compartments) }
 {
     let mut text = String::new(heap);
-    push_users(&mut text, Form::Table, policy)?;
-    push_compartments(&mut text, Form::Table, policy)?;
+    push_users::<Table>(&mut text, policy)?;
+    push_compartments::<Table>(&mut text, policy)?;
     Ok(text)
 }
 
@@ -36,9 +35,9 @@ pub fn graph(heap: Global, policy: &Policy) -> Result<String, AllocError>
     ensures { IfOk result (λ t. string_bytes t ≡ graph_bytes (rules_of policy.now) policy.now.compartments) }
 {
     let mut text = String::new(heap);
-    push(&mut text, Piece::Opening)?;
-    push_users(&mut text, Form::Graph, policy)?;
-    push_compartments(&mut text, Form::Graph, policy)?;
-    push(&mut text, Piece::Closing)?;
+    writeln!(text, "digraph policy {{")?;
+    push_users::<Graph>(&mut text, policy)?;
+    push_compartments::<Graph>(&mut text, policy)?;
+    writeln!(text, "}}")?;
     Ok(text)
 }

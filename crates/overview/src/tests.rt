@@ -34,10 +34,7 @@ fn one() -> [u64; 21] {
 
 #[test]
 fn shows_a_table(rt: HostRuntime) -> Result<(), Fail> {
-    let Ok(policy) = Policy::read(&three(), 64) else {
-        assert!(rt; false);
-        return Ok(());
-    };
+    let policy = Policy::read(&three(), 64)?;
     let text = crate::table(rt.alloc(), &policy)?;
     assert!(rt;
         text.as_str()
@@ -55,10 +52,7 @@ fn shows_a_table(rt: HostRuntime) -> Result<(), Fail> {
 
 #[test]
 fn shows_a_graph(rt: HostRuntime) -> Result<(), Fail> {
-    let Ok(policy) = Policy::read(&three(), 64) else {
-        assert!(rt; false);
-        return Ok(());
-    };
+    let policy = Policy::read(&three(), 64)?;
     let text = crate::graph(rt.alloc(), &policy)?;
     assert!(rt;
         text.as_str()
@@ -88,10 +82,7 @@ fn shows_a_graph(rt: HostRuntime) -> Result<(), Fail> {
 
 #[test]
 fn shows_room_for_one(rt: HostRuntime) -> Result<(), Fail> {
-    let Ok(policy) = Policy::read(&one(), 64) else {
-        assert!(rt; false);
-        return Ok(());
-    };
+    let policy = Policy::read(&one(), 64)?;
     let text = crate::table(rt.alloc(), &policy)?;
     assert!(rt;
         text.as_str()

@@ -12,8 +12,11 @@ use Rattle.policy.specs.declared.Policy.{Policy}
 abbrev pub capacities_of : Policy → List ℕ
 capacities_of p = take p.compartments p.capacities
 
+abbrev pub contracts_of : Policy → List Contract
+contracts_of p = take p.users p.contracts
+
 abbrev pub rules_of : Policy → Rules
-rules_of p = rules_from p.users (take p.users p.contracts) (capacities_of p)
+rules_of p = rules_from p.users (contracts_of p) (capacities_of p)
 
 abbrev pub contract_at : Policy → ℕ → Option Contract
 contract_at p u = cond (nat_lt u p.users) (Some (slice_index_or p.contracts u nobody)) None

@@ -1,3 +1,4 @@
+pub mod Lists
 pub mod Rules
 pub mod Refusals
 pub mod Views

@@ -1,8 +1,8 @@
 -- A policy in numbers: how many users and compartments there are; for each user eighteen numbers, how many compartments they
 -- see, sixteen places for them, and the one in which they write; and for each compartment its capacity.
 use Rattle.std.specs.Prelude.{ℕ, zero, suc, ◌+◌, ◌-◌, ◌*◌, ◌%◌, ◌<◌, ◌≤◌, Bool, true, cond, not, ◌&&◌, ◌||◌, List, length, take, drop, Some, None, Option, ◌==◌, nat_le, slice_index}
-use Rattle.policy.specs.Rules.{Rules, has}
-use Rattle.policy.specs.Views.{distinct_below}
+use Rattle.policy.specs.Rules.{Rules}
+use Rattle.policy.specs.Views.{stands}
 use Rattle.policy.specs.declared.refusal.Refusal.{Refusal}
 use Rattle.policy.specs.declared.refusal.Refusal.TheVariants.{OutOfBounds, BadView}
 use Rattle.std.specs.Option.{option_map}
@@ -52,7 +52,7 @@ first test i (suc n) = cond (test i) (Some i) (first test (i + 1) n)
 
 -- sees a compartment twice or one that isn't there, or doesn't see the one in which they write
 abbrev pub bad_view : List ℕ → ℕ → Bool
-bad_view xs u = not (distinct_below (compartments_in xs) (view_in xs u) && has (view_in xs u) (writes_in xs u))
+bad_view xs u = not (stands (compartments_in xs) (view_in xs u) (writes_in xs u))
 
 -- why numbers are refused: the lowest place at fault; or the lowest user with a bad view
 abbrev pub fault : ℕ → List ℕ → Option Refusal

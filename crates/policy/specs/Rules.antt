@@ -1,9 +1,9 @@
 -- A policy as plain numbers and lists: who sees what, who writes where, and where rows may flow.
-use Rattle.std.specs.Prelude.{◌≡◌, ℕ, zero, suc, ◌<◌, Bool, true, false, not, ◌&&◌, ◌||◌, List, [], ◌∷◌, ◌==◌}
+use Rattle.std.specs.Prelude.{◌≡◌, ℕ, zero, suc, ◌<◌, Bool, true, not, ◌&&◌, ◌||◌, List, ◌==◌}
+use Rattle.std.specs.List.{list_any}
 
 abbrev pub has : List ℕ → ℕ → Bool
-has [] n = false
-has (m ∷ ms) n = m == n || has ms n
+has xs n = list_any (λ m. m == n) xs
 
 -- for each user the compartments that they see, in their own order (their view), and the one in which they write;
 -- for each compartment how many rows it may hold

@@ -1,21 +1,25 @@
 -- What a user's contract says, and when it may stand.
-use Rattle.std.specs.Prelude.{ℕ, Bool, true, not, ◌&&◌, List, [], ◌∷◌, take, replicate, nat_lt}
+use Rattle.std.specs.Prelude.{ℕ, Bool, true, not, ◌&&◌, List, [], ◌∷◌, replicate, nat_lt}
 use Rattle.std.proofs.Common.{lit≤}
 use Rattle.policy.specs.Rules.{has}
 use Rattle.policy.specs.declared.contract.Contract.{Contract}
 
 -- the compartments that the user sees, in their own order
 abbrev pub view_of : Contract → List ℕ
-view_of c = take c.seen c.places
+view_of c = c.view.items
 
 -- none twice, and none that isn't there
 abbrev pub distinct_below : ℕ → List ℕ → Bool
 distinct_below n [] = true
 distinct_below n (c ∷ cs) = nat_lt c n && (not (has cs c) && distinct_below n cs)
 
+-- and the compartment written in is among them
+abbrev pub stands : ℕ → List ℕ → ℕ → Bool
+stands compartments view writes = distinct_below compartments view && has view writes
+
 abbrev pub valid : ℕ → Contract → Bool
-valid compartments c = distinct_below compartments (view_of c) && has (view_of c) c.writes
+valid compartments c = stands compartments (view_of c) c.writes
 
 -- sees nothing
 abbrev pub nobody : Contract
-nobody = record { places = replicate 16 0; seen = 0; writes = 0; few = lit≤ tt }
+nobody = record { view = record { items = []; behind = replicate 16 0 }; writes = 0; few = lit≤ tt }

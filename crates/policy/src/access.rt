@@ -2,12 +2,26 @@
 ghost use Rattle.std.specs.Prelude.{◌≡◌, ◌<◌, ◌&&◌, IfSome, nat_lt};
 ghost use Rattle.policy.specs.Rules.{sees, flows};
 ghost use Rattle.policy.specs.Views.{view_of};
-ghost use Rattle.policy.specs.Access.{rules_of, contract_at, place_at, place_in, written_in, written_at, Inside, cache_at, may_flow, may_see, may_copy, memory_length};
+ghost use Rattle.policy.specs.Access.{capacities_of, contracts_of, rules_of, contract_at, place_at, place_in, written_in, written_at, Inside, cache_at, may_flow, may_see, may_copy, memory_length};
 ghost use Rattle.std.specs.Option.{option_map};
 
 use super::{Contract, Place, Policy, Written};
 
 impl Policy {
+    // The contracts of all users, by their numbers.
+    pub fn contracts(&self) -> &[Contract]
+        ensures { result.now ≡ contracts_of self.now }
+    {
+        &self.contracts[..self.users]
+    }
+
+    // How many rows each compartment may hold.
+    pub fn capacities(&self) -> &[u64]
+        ensures { result.now ≡ capacities_of self.now }
+    {
+        &self.capacities[..self.compartments]
+    }
+
     // The contract of a user, if they are there.
     pub fn contract(&self, user: usize) -> Option<&Contract>
         ensures { option_map (λ x. x.now) result ≡ contract_at self.now user }

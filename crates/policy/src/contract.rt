@@ -1,15 +1,15 @@
 // What one user may do: the compartments that they see, in their own order, and the one in which they write.
-ghost use Rattle.std.specs.Prelude.{◌≤◌};
+ghost use Rattle.std.specs.Prelude.{◌≤◌, length};
+
+use super::ArrayList;
 
 #[derive(Clone, Copy)]
 pub struct Contract {
-    // The first `seen` are the user's view.
-    places: [u64; 16],
-    seen: usize,
+    view: ArrayList<u64, 16>,
     writes: u64,
-    ghost few: { seen ≤ 16 },
+    ghost few: { length view.items ≤ 16 },
 }
 
-mod judge;
+pub(crate) mod judge;
 mod reads;
 mod views;

@@ -26,7 +26,8 @@ pub(crate) fn contracts(numbers: &[u64]) -> Result<[Contract; 32], Refusal>
 {
     let users = numbers[0] as usize;
     let contracts = Contract::of_users(numbers, users);
-    match bad_view(&contracts[0..users], numbers[1]) {
+    let all = &contracts[..];
+    match bad_view(&all[0..users], numbers[1]) {
         Some(user) => Err(Refusal::BadView { user }),
         None => Ok(contracts),
     }

@@ -6,6 +6,7 @@ ghost use Rattle.policy.specs.Layout.{starts_from, end_from};
 ghost use Rattle.policy.specs.Policies.{flow_table, all_valid, all_within};
 
 mod access;
+mod array_list;
 mod contract;
 mod judge;
 pub mod laws;
@@ -14,8 +15,10 @@ mod read;
 mod refusal;
 mod tables;
 
+pub use array_list::ArrayList;
 pub use contract::Contract;
-pub use place::{Place, Written};
+pub use contract::judge::is_view;
+pub use place::{Place, VERSION_LIMIT, Written};
 pub use refusal::Refusal;
 
 // A policy that was judged, with all that a request asks of it worked out.

@@ -1,5 +1,8 @@
 // Where a compartment lies in memory.
 
+// Every version is below it.
+pub const VERSION_LIMIT: u64 = 1 << 40;
+
 // Two numbers, its version and its number of rows, then room for its capacity of rows.
 #[derive(Clone, Copy, PartialEq, Eq, Debug)]
 pub struct Place {

@@ -28,7 +28,8 @@ impl Policy {
         let mut starts = [0; 16];
         let caches = tables::place(&mut starts, &capacities[0..compartments]);
         let mut flows = [false; 256];
-        tables::fill_flows(&mut flows, &contracts[0..users]);
+        let all = &contracts[..];
+        tables::fill_flows(&mut flows, &all[0..users]);
         Policy {
             users,
             compartments,

@@ -1,5 +1,4 @@
 -- Lemmas on queries; the last has the laws.
-pub mod Capacities
 pub mod Steps
 pub mod Views
 pub mod Seen

@@ -1,4 +1,5 @@
 -- What the contracts of this crate cite.
+pub mod Query
 pub mod Answers
 pub mod Looks
 pub mod Numbers

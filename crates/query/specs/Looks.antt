@@ -1,5 +1,5 @@
 -- Which compartments a query looks at, and how long the answer row must be.
-use Rattle.std.specs.Prelude.{ℕ, ◌+◌, ◌*◌, cond, ◌&&◌, List, [], ◌∷◌, take, Some, None, Option}
+use Rattle.std.specs.Prelude.{ℕ, ◌+◌, ◌*◌, cond, ◌&&◌, List, [], ◌∷◌, Some, None, Option}
 use Rattle.policy.specs.Rules.{has}
 use Rattle.query.specs.declared.looked.LookedAt.{LookedAt}
 use Rattle.query.specs.declared.Query.{Query}
@@ -12,7 +12,7 @@ looked_at view (Total range) = view
 looked_at view (Shared a b range) = cond (has view a && has view b) (a ∷ b ∷ []) []
 
 abbrev pub places_of : LookedAt → List ℕ
-places_of l = take l.count l.places
+places_of l = l.compartments.items
 
 -- the capacities of some compartments, added up
 abbrev pub room : (ℕ → ℕ) → List ℕ → ℕ

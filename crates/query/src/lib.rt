@@ -1,6 +1,9 @@
 // Queries over what a user sees, their answers, and the rows that answering examines.
 #![tactic(auto)]
 
+ghost use Rattle.std.specs.Prelude.{◌≡◌};
+ghost use Rattle.query.specs.Query.{range_of};
+
 use rows::KeyRange;
 
 pub mod laws;
@@ -8,8 +11,7 @@ mod looked;
 mod parts;
 mod sizes;
 
-pub use looked::LookedAt;
-pub use looked::looks::looks_at;
+pub use looked::{LookedAt, looks_at};
 pub use parts::answer;
 pub use sizes::needed;
 
@@ -22,6 +24,17 @@ pub enum Query {
     Total { range: KeyRange },
     // The rows of `a` in the range whose keys are in `b`.
     Shared { a: usize, b: usize, range: KeyRange },
+}
+
+impl Query {
+    // The keys that it asks for.
+    pub fn range(self) -> KeyRange
+        ensures { result ≡ range_of self }
+    {
+        match self {
+            Query::Rows { range } | Query::Total { range } | Query::Shared { range, .. } => range,
+        }
+    }
 }
 
 // What was answered. Rows stand in the answer row: a header of 32 numbers, then key and amount of each row, from place 32 on.

@@ -1,12 +1,51 @@
-// Which compartments a query looks at.
-ghost use Rattle.std.specs.Prelude.{◌≤◌};
+// The compartments that a query looks at, from the user's view.
+ghost use Rattle.std.specs.Prelude.{◌≡◌, ◌≤◌, ◌&&◌, length};
+ghost use Rattle.policy.specs.Rules.{has};
+ghost use Rattle.policy.specs.Views.{view_of};
+ghost use Rattle.query.specs.Looks.{looked_at, places_of};
 
-// A query's code is lent the parts of the first `count` places, in their order, and nothing else.
+use crate::Query;
+use policy::{ArrayList, Contract};
+
+// A query's code is lent the parts of these compartments, in their order, and nothing else.
 #[derive(Clone, Copy)]
 pub struct LookedAt {
-    places: [u64; 16],
-    count: usize,
-    ghost few: { count ≤ 16 },
+    compartments: ArrayList<u64, 16>,
 }
 
-pub mod looks;
+// All that the user sees; for shared the two that are compared, or none if the user does not see both.
+pub fn looks_at(contract: &Contract, query: Query) -> LookedAt
+    ensures { places_of result ≡ looked_at (view_of contract.now) query }
+{
+    match query {
+        Query::Rows { .. } | Query::Total { .. } => LookedAt::of(contract.view()),
+        Query::Shared { a, b, .. } if sees_both(contract, a, b) => {
+            LookedAt::of(&[a as u64, b as u64])
+        }
+        Query::Shared { .. } => LookedAt::of(&[]),
+    }
+}
+
+// Two compartments are compared only for a user who sees both.
+pub(crate) fn sees_both(contract: &Contract, a: usize, b: usize) -> bool
+    ensures { result ≡ (has (view_of contract.now) a && has (view_of contract.now) b) }
+{
+    contract.sees(a as u64) && contract.sees(b as u64)
+}
+
+impl LookedAt {
+    pub fn compartments(&self) -> &[u64]
+        ensures value { result.now ≡ places_of self.now }
+        ensures few { length result.now ≤ 16 }
+    {
+        self.compartments.as_slice()
+    }
+
+    fn of(compartments: &[u64]) -> LookedAt
+        requires { length compartments.now ≤ 16 }
+        ensures { places_of result ≡ compartments.now }
+    {
+        let compartments = ArrayList::of(compartments, 0).unwrap();
+        LookedAt { compartments }
+    }
+}

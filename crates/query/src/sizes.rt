@@ -5,6 +5,7 @@ ghost use Rattle.policy.specs.Views.{view_of};
 ghost use Rattle.query.specs.Looks.{room, needed_for};
 
 use crate::Query;
+use crate::looked::sees_both;
 use policy::{Contract, Policy};
 
 // By the policy alone. None where shared names a compartment that the user does not see: the row is not looked at then.
@@ -12,14 +13,9 @@ pub fn needed(policy: &Policy, contract: &Contract, query: Query) -> Option<usiz
     ensures { result ≡ needed_for (rules_of policy.now).capacity (view_of contract.now) query }
 {
     match query {
-        Query::Rows { .. } => Some(32 + 2 * room(policy, contract.view())),
-        Query::Total { .. } => Some(32 + 2 * room(policy, contract.view())),
+        Query::Rows { .. } | Query::Total { .. } => Some(32 + 2 * room(policy, contract.view())),
         Query::Shared { a, b, .. } => {
-            if contract.sees(a as u64) && contract.sees(b as u64) {
-                Some(32 + 2 * capacity(policy, a as u64))
-            } else {
-                None
-            }
+            sees_both(contract, a, b).then(|| 32 + 2 * capacity(policy, a as u64))
         }
     }
 }
@@ -30,8 +26,8 @@ fn room(policy: &Policy, view: &[u64]) -> usize
     ensures small { result ≤ 65536 }
 {
     let mut sum = 0;
-    for i in 0..view.len() {
-        sum += capacity(policy, view[i]);
+    for seen in view {
+        sum += capacity(policy, *seen);
     }
     sum
 }
@@ -41,8 +37,5 @@ fn capacity(policy: &Policy, compartment: u64) -> usize
     ensures value { result ≡ (rules_of policy.now).capacity compartment }
     ensures small { result ≤ 4096 }
 {
-    match policy.place(compartment) {
-        Some(place) => place.capacity,
-        None => 0,
-    }
+    policy.place(compartment).map_or(0, |place| place.capacity)
 }

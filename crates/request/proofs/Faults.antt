@@ -28,9 +28,6 @@ fault bs xs i = ltb i (length bs) && not (ltb i (length xs) && ltb (get_or xs i 
 abbrev LowestBy : List ℕ → List ℕ → Refusal → Type 0
 LowestBy bs xs e = (i : ℕ) × (e ≡ NoRequest i) × (fault bs xs i ≡ true) × ((k : ℕ) → k < i → fault bs xs k ≡ false)
 
-never : {A : Type 0} (P : Type 0) (a : A) (e : Refusal) → ◌≡◌ {A = Result A Refusal} (Ok a) (Err e) → P
-never P a e h = let z : ◌≡◌ {A = ℕ} 0 1 = cc in absurd (omega arith)
-
 module _ (bs xs : List ℕ) where
   abbrev Before : ℕ → Type 0
   Before i = (k : ℕ) → k < i → fault bs xs k ≡ false
@@ -56,8 +53,8 @@ module _ (bs xs : List ℕ) where
   range i e f h b c clear r =
       fails (LowestBy bs xs e) (range_at xs i) _ e r
       (λ s. number i (2 ^ 32) e _ (omega arith) b clear s (λ from clear t.
-      number (i + 1) (2 ^ 32) e _ h c clear t (λ to clear u. never (LowestBy bs xs e) _ e u)))
-      (λ range s t. never (LowestBy bs xs e) _ e t)
+      number (i + 1) (2 ^ 32) e _ h c clear t (λ to clear u. absurd cc)))
+      (λ range s t. absurd cc)
 
 -- a kind that is known is below its bound, and one that is not is at fault
 pub kind_known : (xs : List ℕ) (k : Kind) → kind_at xs ≡ Ok k →
@@ -108,10 +105,10 @@ request_lowest : (xs : List ℕ) (k : Kind) (q : Option QueryKind) (user : ℕ) 
 request_lowest xs Kind.Write q user e hq clear h =
     let bs : List ℕ = kind_bounds (Some Kind.Write) q in
     number bs xs 2 (2 ^ 32) e _ (omega arith) refl clear h (λ key clear h.
-    number bs xs 3 (2 ^ 32) e _ (omega arith) refl clear h (λ amount clear h. never (LowestBy bs xs e) _ e h))
+    number bs xs 3 (2 ^ 32) e _ (omega arith) refl clear h (λ amount clear h. absurd cc))
 request_lowest xs Kind.Delete q user e hq clear h =
     let bs : List ℕ = kind_bounds (Some Kind.Delete) q in
-    number bs xs 2 (2 ^ 32) e _ (omega arith) refl clear h (λ key clear h. never (LowestBy bs xs e) _ e h)
+    number bs xs 2 (2 ^ 32) e _ (omega arith) refl clear h (λ key clear h. absurd cc)
 request_lowest xs Kind.Copy q user e hq clear h =
     let bs : List ℕ = kind_bounds (Some Kind.Copy) q in
     number bs xs 2 16 e _ (omega arith) refl clear h (λ compartment clear h.
@@ -128,7 +125,7 @@ request_lowest xs Kind.Query q user e hq clear h =
     subst (λ (q : Option QueryKind). Before (query_bounds q) xs 2 → LowestBy (query_bounds q) xs e) same
     (λ clear. query_lowest xs k e (goes (query_bounds (Some k)) xs 2 3 _ (query_first (Some k)).3 clear known.1) t)
     clear)
-    (λ query t h. never (LowestBy bs xs e) _ e h))
+    (λ query t h. absurd cc))
 
 pub lowest_fault : LowestFault
 lowest_fault xs e h =

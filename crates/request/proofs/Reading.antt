@@ -25,7 +25,7 @@ round_trip (Request.Query user (Shared a b range)) rest w = grind (arith, nat_te
 pub passes : {A B : Type 0} (P : Type 0) (r : Result A Refusal) (f : A → Result B Refusal) (b : B) →
     then r f ≡ Ok b → ((a : A) → r ≡ Ok a → f a ≡ Ok b → P) → P
 passes P (Ok a) f b h go = go a refl h
-passes P (Err e) f b h go = let z : ◌≡◌ {A = ℕ} 0 1 = cc in absurd (omega arith)
+passes P (Err e) f b h go = absurd cc
 
 ok_same : {A : Type 0} (a b : A) → ◌≡◌ {A = Result A Refusal} (Ok a) (Ok b) → a ≡ b
 ok_same a b h = cc

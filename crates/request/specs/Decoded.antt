@@ -1,5 +1,5 @@
 -- The request that numbers stand for, or the refusal at the lowest place at fault.
-use Rattle.std.specs.Prelude.{ℕ, ◌+◌, ◌^◌, cond, ◌&&◌, List, length, Ok, Err, Result, nat_lt, slice_index}
+use Rattle.std.specs.Prelude.{◌≡◌, ℕ, ◌+◌, ◌^◌, cond, ◌&&◌, List, length, Ok, Err, Result, nat_lt, slice_index}
 use Rattle.std.specs.Option.{ok_or}
 use Rattle.rows.specs.declared.KeyRange.{KeyRange}
 use Rattle.policy.specs.declared.refusal.Refusal.{Refusal}
@@ -20,6 +20,16 @@ then (Err e) f = Err e
 -- the number at a place
 abbrev pub number_at : List ℕ → ℕ → Result ℕ Refusal
 number_at xs place = cond (nat_lt place (length xs)) (Ok (slice_index xs place)) (Err (NoRequest place))
+
+-- a value that is made of a number, or the refusal if none is
+abbrev pub or_refused : {A E : Type 0} → ℕ → Result A E → Result A Refusal
+or_refused place (Ok a) = Ok a
+or_refused place (Err e) = Err (NoRequest place)
+
+-- what is read there is made of the number there
+abbrev pub ReadAs : {A E : Type 0} → (ℕ → Result A E → Type 0) → ℕ → Result ℕ Refusal → Result A Refusal → Type 0
+ReadAs {A} {E} gives place (Ok n) r = (made : Result A E) × gives n made × (r ≡ or_refused place made)
+ReadAs gives place (Err e) r = r ≡ Err e
 
 -- the number at a place, if it is below the bound
 abbrev pub below : ℕ → List ℕ → ℕ → Result ℕ Refusal

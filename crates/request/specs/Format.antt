@@ -8,20 +8,20 @@ use Rattle.request.specs.declared.Request.{Request}
 use Rattle.request.specs.declared.Request.TheVariants.{Write, Delete, Copy}
 use Rattle.request.specs.declared.kinds.Kind.{Kind}
 use Rattle.request.specs.declared.kinds.QueryKind.{QueryKind}
-use Rattle.request.specs.Kinds.{kind_numbered, query_numbered}
+use Rattle.request.specs.Kinds.{kind_number, kind_numbered, query_number, query_numbered}
 use Rattle.request.specs.Decoded.{decoded}
 
 abbrev pub query_numbers : Query → List ℕ
-query_numbers (Rows range) = 0 ∷ range.from ∷ range.to ∷ []
-query_numbers (Total range) = 1 ∷ range.from ∷ range.to ∷ []
-query_numbers (Shared a b range) = 2 ∷ a ∷ b ∷ range.from ∷ range.to ∷ []
+query_numbers (Rows range) = query_number QueryKind.Rows ∷ range.from ∷ range.to ∷ []
+query_numbers (Total range) = query_number QueryKind.Total ∷ range.from ∷ range.to ∷ []
+query_numbers (Shared a b range) = query_number QueryKind.Shared ∷ a ∷ b ∷ range.from ∷ range.to ∷ []
 
 -- the numbers that a request is written as: kind, user, and what is asked
 abbrev pub numbers_of : Request → List ℕ
-numbers_of (Write user row) = 0 ∷ user ∷ row.key ∷ row.amount ∷ []
-numbers_of (Delete user key) = 1 ∷ user ∷ key ∷ []
-numbers_of (Copy user compartment range) = 2 ∷ user ∷ compartment ∷ range.from ∷ range.to ∷ []
-numbers_of (Request.Query user query) = 3 ∷ user ∷ query_numbers query
+numbers_of (Write user row) = kind_number Kind.Write ∷ user ∷ row.key ∷ row.amount ∷ []
+numbers_of (Delete user key) = kind_number Kind.Delete ∷ user ∷ key ∷ []
+numbers_of (Copy user compartment range) = kind_number Kind.Copy ∷ user ∷ compartment ∷ range.from ∷ range.to ∷ []
+numbers_of (Request.Query user query) = kind_number Kind.Query ∷ user ∷ query_numbers query
 
 -- the numbers at the places of each kind of request are below these; behind an unknown kind no place is known
 abbrev pub query_bounds : Option QueryKind → List ℕ

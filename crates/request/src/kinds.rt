@@ -1,45 +1,71 @@
 // The kinds of requests and of queries, and their numbers in the format.
-ghost use Rattle.request.specs.Kinds.{kind_numbered, query_numbered};
-ghost use Rattle.std.specs.Prelude.{◌≡◌};
+ghost use Rattle.request.specs.Kinds.{kind_number, kind_numbered, query_number, query_numbered};
+ghost use Rattle.std.specs.Prelude.{◌≡◌, ok_or};
 
-// The kinds of requests.
+// The kinds of requests, by their numbers.
 #[derive(Clone, Copy, PartialEq, Eq, Debug)]
 pub enum Kind {
-    Write,
-    Delete,
-    Copy,
-    Query,
+    Write = 0,
+    Delete = 1,
+    Copy = 2,
+    Query = 3,
 }
 
-// The kinds of queries.
+// The kinds of queries, by their numbers.
 #[derive(Clone, Copy, PartialEq, Eq, Debug)]
 pub enum QueryKind {
-    Rows,
-    Total,
-    Shared,
+    Rows = 0,
+    Total = 1,
+    Shared = 2,
 }
 
-// The kind of a request by its number, if it is known.
-pub fn kind_numbered(number: u64) -> Option<Kind>
-    ensures { result ≡ kind_numbered number }
-{
-    match number {
-        0 => Some(Kind::Write),
-        1 => Some(Kind::Delete),
-        2 => Some(Kind::Copy),
-        3 => Some(Kind::Query),
-        _ => None,
+// A number that no kind has.
+#[derive(Clone, Copy, PartialEq, Eq, Debug)]
+pub struct UnknownKind(pub u64);
+
+impl From<Kind> for u64 {
+    ghost from_gives = { λ kind number. number ≡ kind_number kind };
+
+    fn from(kind: Kind) -> u64 {
+        kind as u64
     }
 }
 
-// The kind of a query by its number, if it is known.
-pub fn query_numbered(number: u64) -> Option<QueryKind>
-    ensures { result ≡ query_numbered number }
-{
-    match number {
-        0 => Some(QueryKind::Rows),
-        1 => Some(QueryKind::Total),
-        2 => Some(QueryKind::Shared),
-        _ => None,
+impl From<QueryKind> for u64 {
+    ghost from_gives = { λ kind number. number ≡ query_number kind };
+
+    fn from(kind: QueryKind) -> u64 {
+        kind as u64
+    }
+}
+
+impl TryFrom<u64> for Kind {
+    type Error = UnknownKind;
+
+    ghost try_from_gives = { λ number kind. kind ≡ ok_or (kind_numbered number) (record { 0 = number }) };
+
+    fn try_from(number: u64) -> Result<Kind, UnknownKind> {
+        match number {
+            0 => Ok(Kind::Write),
+            1 => Ok(Kind::Delete),
+            2 => Ok(Kind::Copy),
+            3 => Ok(Kind::Query),
+            _ => Err(UnknownKind(number)),
+        }
+    }
+}
+
+impl TryFrom<u64> for QueryKind {
+    type Error = UnknownKind;
+
+    ghost try_from_gives = { λ number kind. kind ≡ ok_or (query_numbered number) (record { 0 = number }) };
+
+    fn try_from(number: u64) -> Result<QueryKind, UnknownKind> {
+        match number {
+            0 => Ok(QueryKind::Rows),
+            1 => Ok(QueryKind::Total),
+            2 => Ok(QueryKind::Shared),
+            _ => Err(UnknownKind(number)),
+        }
     }
 }

@@ -9,11 +9,11 @@ mod kinds;
 mod laws;
 mod places;
 
-pub use kinds::{Kind, QueryKind, kind_numbered, query_numbered};
+pub use kinds::{Kind, QueryKind, UnknownKind};
 pub use laws::{
     lowest_fault_stands, read_without_fault_stands, reads_what_stands, round_trip_stands,
 };
-use places::{compartment_at, kind_at, query_kind_at, range_at, user_at, word_at};
+use places::{COMPARTMENTS, USERS, index_at, range_at, value_at};
 use policy::Refusal;
 use query::Query;
 use rows::{KeyRange, Row};
@@ -69,8 +69,8 @@ impl Request {
 pub fn decode(numbers: &[u64]) -> Result<Request, Refusal>
     ensures { result ≡ decoded numbers.now }
 {
-    let kind = kind_at(numbers)?;
-    let user = user_at(numbers)?;
+    let kind = value_at(numbers, 0)?;
+    let user = index_at(numbers, 1, USERS)?;
     decode_as(kind, user, numbers)
 }
 
@@ -79,19 +79,19 @@ fn decode_as(kind: Kind, user: usize, numbers: &[u64]) -> Result<Request, Refusa
 {
     match kind {
         Kind::Write => {
-            let key = word_at(numbers, 2)?;
-            let amount = word_at(numbers, 3)?;
+            let key = value_at(numbers, 2)?;
+            let amount = value_at(numbers, 3)?;
             Ok(Request::Write {
                 user,
                 row: Row { key, amount },
             })
         }
         Kind::Delete => {
-            let key = word_at(numbers, 2)?;
+            let key = value_at(numbers, 2)?;
             Ok(Request::Delete { user, key })
         }
         Kind::Copy => {
-            let compartment = compartment_at(numbers, 2)?;
+            let compartment = index_at(numbers, 2, COMPARTMENTS)?;
             let range = range_at(numbers, 3)?;
             Ok(Request::Copy {
                 user,
@@ -100,7 +100,7 @@ fn decode_as(kind: Kind, user: usize, numbers: &[u64]) -> Result<Request, Refusa
             })
         }
         Kind::Query => {
-            let kind = query_kind_at(numbers)?;
+            let kind = value_at(numbers, 2)?;
             let query = decode_query(kind, numbers)?;
             Ok(Request::Query { user, query })
         }
@@ -120,8 +120,8 @@ fn decode_query(kind: QueryKind, numbers: &[u64]) -> Result<Query, Refusal>
             Ok(Query::Total { range })
         }
         QueryKind::Shared => {
-            let a = compartment_at(numbers, 3)?;
-            let b = compartment_at(numbers, 4)?;
+            let a = index_at(numbers, 3, COMPARTMENTS)?;
+            let b = index_at(numbers, 4, COMPARTMENTS)?;
             let range = range_at(numbers, 5)?;
             Ok(Query::Shared { a, b, range })
         }
@@ -131,7 +131,6 @@ fn decode_query(kind: QueryKind, numbers: &[u64]) -> Result<Query, Refusal>
 #[cfg(test)]
 mod tests {
     use super::*;
-    use std::test::Fail;
 
     fn refused_at(numbers: &[u64]) -> Option<usize> {
         match decode(numbers) {
@@ -162,21 +161,28 @@ mod tests {
     }
 
     #[test]
-    fn reads_a_copy(rt: HostRuntime) -> Result<(), Fail> {
-        let Ok(
-            Request::Copy {
-                user,
-                compartment,
+    fn reads_a_copy(rt: HostRuntime) {
+        let range = KeyRange { from: 5, to: 6 };
+        assert_eq!(rt;
+            decode(&[2, 3, 4, 5, 6]),
+            Ok(Request::Copy {
+                user: 3,
+                compartment: 4,
                 range,
-            },
-        ) = decode(&[2, 3, 4, 5, 6])
-        else {
-            return Err(Fail::new("no copy"));
-        };
-        assert_eq!(rt; user, 3);
-        assert_eq!(rt; compartment, 4);
-        assert_eq!(rt; range.from, 5);
-        assert_eq!(rt; range.to, 6);
-        Ok(())
+            },)
+        );
+    }
+
+    #[test]
+    fn kinds_have_their_numbers(rt: HostRuntime) {
+        for kind in [Kind::Write, Kind::Delete, Kind::Copy, Kind::Query] {
+            assert_eq!(rt; Kind::try_from(u64::from(kind)), Ok(kind));
+        }
+        for kind in [QueryKind::Rows, QueryKind::Total, QueryKind::Shared] {
+            assert_eq!(rt; QueryKind::try_from(u64::from(kind)), Ok(kind));
+        }
+        assert_eq!(rt; u64::from(Kind::Copy), 2);
+        assert_eq!(rt; Kind::try_from(4), Err(UnknownKind(4)));
+        assert_eq!(rt; QueryKind::try_from(3), Err(UnknownKind(3)));
     }
 }

@@ -5,6 +5,7 @@ pub mod Copied
 pub mod Splits
 pub mod Halves
 pub mod Memory
+pub mod Paired
 pub mod Passes
 pub mod Places
 pub mod Images

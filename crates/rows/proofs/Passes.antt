@@ -1,21 +1,15 @@
 -- One pass over two parts: what is skipped, and what a turn adds.
-use Rattle.std.proofs.Common.{◌≡◌, ℕ, ◌+◌, ◌*◌, ◌/◌, ◌<◌, ◌≤◌, true, false, cond, List, ◌∷◌, ◌++◌, length, get_or, take, drop, set, sym, refl, ◌∙◌, inl, inr, arith}
+use Rattle.std.proofs.Common.{◌≡◌, ℕ, suc, ◌+◌, ◌*◌, ◌/◌, ◌<◌, ◌≤◌, ltb, List, [], ◌∷◌, ◌++◌, length, get_or, take, drop, set, map, sym, refl, ◌∙◌, inl, inr, arith}
 use Rattle.std.proofs.lemmas.List.{append_assoc, append-nil, take-append-drop}
-use Rattle.std.proofs.lemmas.Bool.{lt-ltb, le-ltb, cases_lt}
-use Rattle.rows.specs.Halving.{flat, rows_of}
+use Rattle.std.proofs.lemmas.Bool.{cases_Bool, lt-ltb, le-ltb, cases_lt}
+use Rattle.std.specs.List.{prefix_len}
+use Rattle.rows.specs.declared.Row.{Row}
+use Rattle.rows.specs.Halving.{flat, pair_row, rows_of}
 use Rattle.rows.specs.Numbers.{skipped, first_is, merged, stands_at, in_front}
-use Rattle.rows.proofs.Memory.{rows_more, rows_none, row_at, take_written, drop_written}
+use Rattle.rows.proofs.Memory.{rows_more, rows_none, take_written, drop_written}
+use Rattle.rows.proofs.Paired.{length_rows_of}
 
 module _ (xs : List ℕ) (i key : ℕ) where
-  pub skipped_more : i < length xs / 2 → get_or xs (2 * i) 0 < key → skipped key (rows_of (drop (2 * i) xs)) ≡ skipped key (rows_of (drop (2 * (i + 1)) xs))
-  skipped_more h l = rw (rows_more xs i h, lt-ltb (get_or xs (2 * i) 0) key l) refl
-
-  pub skipped_here : i < length xs / 2 → key ≤ get_or xs (2 * i) 0 → skipped key (rows_of (drop (2 * i) xs)) ≡ rows_of (drop (2 * i) xs)
-  skipped_here h l = rw (rows_more xs i h, le-ltb (get_or xs (2 * i) 0) key l) refl
-
-  pub skipped_all : length xs / 2 ≤ i → skipped key (rows_of (drop (2 * i) xs)) ≡ rows_of (drop (2 * i) xs)
-  skipped_all h = rw (rows_none xs i h) refl
-
   pub first_is_at : first_is key (rows_of (drop (2 * i) xs)) ≡ stands_at i key xs
   first_is_at =
       elim (cases_lt i (length xs / 2)) [
@@ -23,45 +17,50 @@ module _ (xs : List ℕ) (i key : ℕ) where
         | inr h ↦ rw (rows_none xs i h, le-ltb i (length xs / 2) h) refl
       ]
 
--- one turn of the pass: n is where it stood in the second part, and m where it stands after what it skipped
-pub merged_more : (xs ys : List ℕ) (i n m : ℕ) → i < length xs / 2
-    → rows_of (drop (2 * m) ys) ≡ skipped (get_or xs (2 * i) 0) (rows_of (drop (2 * n) ys))
-    → merged (rows_of (drop (2 * i) xs)) (rows_of (drop (2 * n) ys))
-    ≡ cond (stands_at m (get_or xs (2 * i) 0) ys)
-    (row_at i xs ∷ merged (rows_of (drop (2 * (i + 1)) xs)) (rows_of (drop (2 * m) ys)))
-    (merged (rows_of (drop (2 * (i + 1)) xs)) (rows_of (drop (2 * m) ys)))
-merged_more xs ys i n m h e = rw (rows_more xs i h, ← e, first_is_at ys m (get_or xs (2 * i) 0)) refl
+-- the smaller keys in front are passed over
+pub skipped_pairs : (key : ℕ) (xs : List (List ℕ)) → map pair_row (drop (prefix_len (λ x. ltb (get_or x 0 0) key) xs) xs) ≡ skipped key (map pair_row xs)
+skipped_pairs key [] = refl
+skipped_pairs key (x ∷ xs) =
+    elim (cases_Bool (ltb (get_or x 0 0) key)) [
+      | inl e ↦ rw e (let n : 1 + prefix_len (λ x. ltb (get_or x 0 0) key) xs ≡ suc (prefix_len (λ x. ltb (get_or x 0 0) key) xs) = omega arith in rw n (skipped_pairs key xs))
+      | inr e ↦ rw e refl
+    ]
 
--- where a pass stands: i rows of the first part are behind it, n of the second, and w are written
-abbrev pub Passed : List ℕ → List ℕ → List ℕ → ℕ → ℕ → ℕ → List ℕ → Type 0
-Passed xs ys start i n w out =
-    (w ≤ i) × (n ≤ length ys / 2)
-    × (w + length (merged (rows_of (drop (2 * i) xs)) (rows_of (drop (2 * n) ys))) ≡ length (merged (rows_of xs) (rows_of ys)))
-    × (take (2 * w) out ++ flat (merged (rows_of (drop (2 * i) xs)) (rows_of (drop (2 * n) ys))) ≡ flat (merged (rows_of xs) (rows_of ys)))
-    × (drop (2 * w) out ≡ drop (2 * w) start)
+-- a pass comes to no more rows than it goes through
+pub length_merged : (xs ys : List Row) → length (merged xs ys) ≤ length xs
+length_merged [] ys = omega arith
+length_merged (x ∷ xs) ys =
+    let i = length_merged xs (skipped x.key ys) in
+    elim (cases_Bool (first_is x.key (skipped x.key ys))) [
+      | inl e ↦ rw e (omega arith)
+      | inr e ↦ rw e (omega arith)
+    ]
 
-module _ (xs ys start : List ℕ) (i n w : ℕ) (out : List ℕ) (so : Passed xs ys start i n w out) where
-  module _ (m : ℕ) (h : i < length xs / 2) (le : m ≤ length ys / 2) (e : rows_of (drop (2 * m) ys) ≡ skipped (get_or xs (2 * i) 0) (rows_of (drop (2 * n) ys))) where
-    pub passed_one : 2 * w + 2 ≤ length out → stands_at m (get_or xs (2 * i) 0) ys ≡ true
-        → Passed xs ys start (i + 1) m (w + 1) (set (set out (2 * w) (get_or xs (2 * i) 0)) (2 * w + 1) (get_or xs (2 * i + 1) 0))
-    passed_one room t =
-        let turn = rw t at (merged_more xs ys i n m h e) in
-        let len = rw turn at so.2 in (
-          omega arith,
-          le,
-          omega arith,
-          rw (take_written out w (get_or xs (2 * i) 0) (get_or xs (2 * i + 1) 0) room, append_assoc) (rw turn at so.3),
-          drop_written out w (get_or xs (2 * i) 0) (get_or xs (2 * i + 1) 0) room start so.4,
-        )
+pub length_shared : (xs ys : List ℕ) → length (merged (rows_of xs) (rows_of ys)) ≤ length xs / 2
+length_shared xs ys = omega (arith, length_merged (rows_of xs) (rows_of ys), length_rows_of xs)
 
-    pub passed_none : stands_at m (get_or xs (2 * i) 0) ys ≡ false → Passed xs ys start (i + 1) m w out
-    passed_none t =
-        let turn = rw t at (merged_more xs ys i n m h e) in
-        (omega arith, le, rw turn at so.2, rw turn at so.3, so.4)
+-- where a pass stands: w rows are written, and the others are still to come
+pub record Passed (all left : List Row) (start : List ℕ) (w : ℕ) (out : List ℕ) : Type 0 where
+  pub count : w + length left ≡ length all
+  pub front : take (2 * w) out ++ flat left ≡ flat all
+  pub behind : drop (2 * w) out ≡ drop (2 * w) start
 
-  pub passed_all : length xs / 2 ≤ i → (w ≡ length (merged (rows_of xs) (rows_of ys))) × (out ≡ in_front (merged (rows_of xs) (rows_of ys)) start)
-  passed_all h =
-      let e = rows_none xs i h in
-      let len : w ≡ length (merged (rows_of xs) (rows_of ys)) = omega (arith, rw e at so.2) in
-      let front : take (2 * w) out ≡ flat (merged (rows_of xs) (rows_of ys)) = sym (append-nil (take (2 * w) out)) ∙ (rw e at so.3) in
-      (len, rw (← front, ← len, ← so.4) (sym (take-append-drop (2 * w) out)))
+module _ (all : List Row) (start : List ℕ) (w : ℕ) (out : List ℕ) where
+  pub still_room : (x : Row) (left : List Row) → Passed all (x ∷ left) start w out → w < length all
+  still_room x left so = omega (arith, so.count)
+
+  pub passed_one : (x : Row) (left : List Row) → Passed all (x ∷ left) start w out → 2 * length all ≤ length out
+      → Passed all left start (w + 1) (set (set out (2 * w) x.key) (2 * w + 1) x.amount)
+  passed_one x left so room =
+      let n = so.count in
+      record {
+        count = omega arith;
+        front = rw (take_written out w x.key x.amount (omega arith), append_assoc) so.front;
+        behind = drop_written out w x.key x.amount (omega arith) start so.behind;
+      }
+
+  pub passed_all : Passed all [] start w out → (w ≡ length all) × (out ≡ in_front all start)
+  passed_all so =
+      let len : w ≡ length all = omega (arith, so.count) in
+      let front : take (2 * w) out ≡ flat all = sym (append-nil (take (2 * w) out)) ∙ so.front in
+      (len, rw (← front, ← len, ← so.behind) (sym (take-append-drop (2 * w) out)))

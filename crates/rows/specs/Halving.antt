@@ -13,6 +13,10 @@ rows_of [] = []
 rows_of (k ∷ []) = []
 rows_of (k ∷ a ∷ xs) = record { key = k; amount = a } ∷ rows_of xs
 
+-- the row that a key and an amount make
+abbrev pub pair_row : List ℕ → Row
+pair_row pair = record { key = slice_index pair 0; amount = slice_index pair 1 }
+
 unfoldable pub bisect : ℕ → ℕ → ℕ → List ℕ → ℕ → ℕ
 bisect zero low high rows key = low
 bisect (suc fuel) low high rows key =

@@ -2,4 +2,5 @@
 pub mod Rows
 pub mod Halving
 pub mod Numbers
+pub mod Passes
 pub mod Laws

@@ -1,5 +1,5 @@
 -- What each call makes of the numbers that it is lent, for every content, of rows that rise or not.
-use Rattle.std.specs.Prelude.{ℕ, ◌+◌, ◌-◌, ◌*◌, ◌/◌, ◌%◌, ◌^◌, max, Bool, false, cond, ◌&&◌, List, [], ◌∷◌, ◌++◌, length, take, drop, Some, None, Option, ◌==◌, nat_lt, slice_index, slice_set}
+use Rattle.std.specs.Prelude.{ℕ, ◌+◌, ◌-◌, ◌*◌, ◌/◌, ◌%◌, ◌^◌, max, Bool, false, cond, ◌&&◌, List, [], ◌∷◌, ◌++◌, length, take, drop, Some, None, Ok, Err, Option, Result, ◌==◌, nat_lt, slice_index, slice_set}
 use Rattle.std.proofs.Math.Seq.{paste}
 use Rattle.rows.specs.Rows.{sum}
 use Rattle.rows.specs.Halving.{flat, rows_of, position}
@@ -14,6 +14,10 @@ stands_at at key rows = nat_lt at (length rows / 2) && slice_index rows (2 * at)
 -- the halving finds a row with this key
 abbrev pub found : ℕ → List ℕ → Bool
 found key rows = stands_at (position key rows) key rows
+
+-- where a row with this key stands, or where it would come in
+abbrev pub sought : ℕ → List ℕ → Result ℕ ℕ
+sought key rows = cond (found key rows) (Ok (position key rows)) (Err (position key rows))
 
 abbrev pub place : ℕ → List ℕ → Option ℕ
 place key rows = cond (found key rows) (Some (position key rows)) None

@@ -1,10 +1,12 @@
 // Rows in lent memory, by rising key: found by halving, put, deleted, cut to a key range, added up, compared with others.
 #![tactic(auto)]
 
-ghost use Rattle.std.specs.Prelude.{◌≡◌, ◌+◌, ◌*◌, ◌/◌, ◌%◌, ◌^◌, ◌≤◌, length, drop, IfSome};
+ghost use Rattle.std.specs.Prelude.{◌≡◌, ◌+◌, ◌*◌, ◌/◌, ◌%◌, ◌^◌, ◌≤◌, length, map, IfSome, MatchResult, slice_set};
+ghost use Rattle.std.specs.Iterator.{YieldsFirstBy, item_count};
 ghost use Rattle.rows.specs.Rows.{sum};
-ghost use Rattle.rows.specs.Halving.{position, rows_of};
-ghost use Rattle.rows.specs.Numbers.{stands_at, place, opened, put_count, put_into, delete_count, delete_from, range_part, totals_of, skipped, merged, in_front, shared_count, shared_into};
+ghost use Rattle.rows.specs.Halving.{pair_row, position, rows_of};
+ghost use Rattle.rows.specs.Passes.{shared_rows};
+ghost use Rattle.rows.specs.Numbers.{sought, place, opened, put_count, put_into, delete_count, delete_from, range_part, totals_of, skipped, first_is, merged, in_front, shared_count, shared_into};
 
 pub mod laws;
 
@@ -29,6 +31,13 @@ pub struct Totals {
     pub amount: u64,
 }
 
+// The rows, each as its key and its amount; an odd number at the end belongs to none.
+pub fn pairs(rows: &[u64]) -> &[[u64; 2]]
+    ensures { map pair_row result.now ≡ rows_of rows.now }
+{
+    rows.as_chunks().0
+}
+
 // How many keys are smaller than `key`, by halving: exact for every content, and the number of smaller keys where rows rise.
 pub fn position(rows: &[u64], key: u64) -> usize
     ensures value { result ≡ position key rows.now }
@@ -37,7 +46,7 @@ pub fn position(rows: &[u64], key: u64) -> usize
     halve(rows, key, rows.len() / 2)
 }
 
-// The halving itself.
+// The halving itself, by hand: `partition_point` says where it comes out for rows that rise only.
 fn halve(rows: &[u64], key: u64, count: usize) -> usize
     requires { count ≡ length rows.now / 2 }
     ensures value { result ≡ position key rows.now }
@@ -56,11 +65,17 @@ fn halve(rows: &[u64], key: u64, count: usize) -> usize
     low
 }
 
-// Whether the row at a place is there and has this key.
-fn stands_at(rows: &[u64], at: usize, key: u64) -> bool
-    ensures { result ≡ stands_at at key rows.now }
+// Where the row with this key stands, or where it would come in.
+fn search(rows: &[u64], key: u64) -> Result<usize, usize>
+    ensures value { result ≡ sought key rows.now }
+    ensures within { MatchResult result (λ at. 2 * at + 2 ≤ length rows.now) (λ at. 2 * at ≤ length rows.now) }
 {
-    at < rows.len() / 2 && rows[2 * at] == key
+    let at = position(rows, key);
+    if at < rows.len() / 2 && rows[2 * at] == key {
+        Ok(at)
+    } else {
+        Err(at)
+    }
 }
 
 // Where the row with this key stands.
@@ -68,12 +83,7 @@ pub fn find(rows: &[u64], key: u64) -> Option<usize>
     ensures value { result ≡ place key rows.now }
     ensures within { IfSome result (λ at. 2 * at + 2 ≤ length rows.now) }
 {
-    let at = position(rows, key);
-    if stands_at(rows, at, key) {
-        Some(at)
-    } else {
-        None
-    }
+    search(rows, key).ok()
 }
 
 // Puts a row among the first `count` of `part`, in place of the one with its key, and says how many there are then;
@@ -87,16 +97,17 @@ pub fn put(part: &mut [u64], count: usize, row: Row) -> Option<usize>
     if count > room {
         return None;
     }
-    let at = position(&part[..2 * count], row.key as u64);
-    if stands_at(&part[..2 * count], at, row.key as u64) {
-        part[2 * at + 1] = row.amount as u64;
-        return Some(count);
+    match search(&part[..2 * count], u64::from(row.key)) {
+        Ok(at) => {
+            part[2 * at + 1] = u64::from(row.amount);
+            Some(count)
+        }
+        Err(_) if count == room => None,
+        Err(at) => {
+            insert(part, at, count, row);
+            Some(count + 1)
+        }
     }
-    if count == room {
-        return None;
-    }
-    insert(part, at, count, row);
-    Some(count + 1)
 }
 
 // Moves the rows from `at` on by one, and writes the row where they were.
@@ -106,8 +117,17 @@ fn insert(part: &mut [u64], at: usize, count: usize, row: Row)
     ensures { part.new ≡ opened at count row part.old }
 {
     part.copy_within(2 * at..2 * count, 2 * at + 2);
-    part[2 * at] = row.key as u64;
-    part[2 * at + 1] = row.amount as u64;
+    set_row(part, at, [u64::from(row.key), u64::from(row.amount)]);
+}
+
+// Writes a row, as its key and its amount, at a place.
+fn set_row(rows: &mut [u64], at: usize, row: [u64; 2])
+    requires { 2 * at + 2 ≤ length rows.old }
+    ensures { rows.new ≡ slice_set (slice_set rows.old (2 * at) (pair_row row).key) (2 * at + 1) (pair_row row).amount }
+{
+    let [key, amount] = row;
+    rows[2 * at] = key;
+    rows[2 * at + 1] = amount;
 }
 
 // Deletes the row with this key from the first `count` of `part`, and says how many are left;
@@ -120,7 +140,7 @@ pub fn delete(part: &mut [u64], count: usize, key: u32) -> Option<usize>
     if count > part.len() / 2 {
         return None;
     }
-    let at = find(&part[..2 * count], key as u64)?;
+    let at = find(&part[..2 * count], u64::from(key))?;
     part.copy_within(2 * at + 2..2 * count, 2 * at);
     Some(count - 1)
 }
@@ -130,8 +150,8 @@ pub fn range(rows: &[u64], range: KeyRange) -> &[u64]
     ensures value { result.now ≡ range_part range rows.now }
     ensures within { length result.now ≤ length rows.now }
 {
-    let start = position(rows, range.from as u64);
-    let end = position(rows, range.to as u64 + 1).max(start);
+    let start = position(rows, u64::from(range.from));
+    let end = position(rows, u64::from(range.to) + 1).max(start);
     &rows[2 * start..2 * end]
 }
 
@@ -148,11 +168,11 @@ pub fn total(rows: &[u64]) -> Totals
 fn add_up(rows: &[u64]) -> u64
     ensures { result ≡ sum (rows_of rows.now) % 2 ^ 64 }
 {
-    let mut amount = 0u64;
-    for i in 0..rows.len() / 2 {
-        amount = amount.wrapping_add(rows[2 * i + 1]);
+    let mut sum = 0u64;
+    for [_, amount] in pairs(rows) {
+        sum = sum.wrapping_add(*amount);
     }
-    amount
+    sum
 }
 
 // Writes the rows of `a` whose keys are in `b` to the front of `out`, in one pass over both, and says how many they are;
@@ -168,37 +188,79 @@ pub fn shared(a: &[u64], b: &[u64], out: &mut [u64]) -> Option<usize>
     Some(merge(a, b, out))
 }
 
-// The pass: `next` never goes back, so that each row of `b` is passed once.
+// Writes the rows that both share to the front of `out`, and says how many they are.
 fn merge(a: &[u64], b: &[u64], out: &mut [u64]) -> usize
     requires { length a.now / 2 ≤ length out.old / 2 }
     ensures told { result ≡ length (merged (rows_of a.now) (rows_of b.now)) }
     ensures after { out.new ≡ in_front (merged (rows_of a.now) (rows_of b.now)) out.old }
     ensures within { result ≤ length a.now / 2 }
 {
-    let mut next = 0;
     let mut written = 0;
-    for i in 0..a.len() / 2 {
-        next = skip(b, next, a[2 * i]);
-        if stands_at(b, next, a[2 * i]) {
-            out[2 * written] = a[2 * i];
-            out[2 * written + 1] = a[2 * i + 1];
-            written += 1;
-        }
+    for row in SharedRows::new(a, b) {
+        set_row(out, written, *row);
+        written += 1;
     }
     written
 }
 
-// The first place from `from` on whose key is not smaller.
-fn skip(rows: &[u64], from: usize, key: u64) -> usize
-    requires { from ≤ length rows.now / 2 }
-    ensures value { rows_of (drop (2 * result) rows.now) ≡ skipped key (rows_of (drop (2 * from) rows.now)) }
-    ensures within { result ≤ length rows.now / 2 }
+// How many rows of `a` have keys that are in `b`, in one pass over both.
+pub fn shared_keys(a: &[u64], b: &[u64]) -> usize
+    ensures value { result ≡ length (merged (rows_of a.now) (rows_of b.now)) }
+    ensures within { result ≤ length a.now / 2 }
 {
-    let mut at = from;
-    while at < rows.len() / 2 && rows[2 * at] < key {
-        at += 1;
+    SharedRows::new(a, b).count()
+}
+
+// The rows whose keys are among those of others, in one pass over both: what is passed on either side is not seen again.
+#[derive(Drop)]
+struct SharedRows<'a> {
+    rows: &'a [[u64; 2]],
+    others: &'a [[u64; 2]],
+}
+
+impl<'a> SharedRows<'a> {
+    fn new(a: &'a [u64], b: &'a [u64]) -> SharedRows<'a>
+        ensures { shared_rows result ≡ merged (rows_of a.now) (rows_of b.now) }
+    {
+        SharedRows {
+            rows: pairs(a),
+            others: pairs(b),
+        }
     }
-    at
+}
+
+impl<'a> Iterator for SharedRows<'a> {
+    type Item = &'a [u64; 2];
+
+    ghost next_gives = { YieldsFirstBy (λ row. pair_row row.now) shared_rows };
+
+    ghost remaining = { item_count shared_rows };
+
+    fn next(&mut self) -> Option<&'a [u64; 2]> {
+        while let Some((row, rows)) = self.rows.split_first() {
+            self.rows = rows;
+            self.others = skip(self.others, row[0]);
+            if first_is(self.others, row[0]) {
+                return Some(row);
+            }
+        }
+        None
+    }
+}
+
+// The rows from the first one on whose key is not smaller.
+fn skip(rows: &[[u64; 2]], key: u64) -> &[[u64; 2]]
+    ensures { map pair_row result.now ≡ skipped key (map pair_row rows.now) }
+{
+    let smaller = rows.iter().take_while(|row| row[0] < key).count();
+    &rows[smaller..]
+}
+
+// Whether the first row is there and has this key.
+fn first_is(rows: &[[u64; 2]], key: u64) -> bool
+    ensures { result ≡ first_is key (map pair_row rows.now) }
+{
+    rows.first().is_some_and(|row| row[0] == key)
 }
 
 #[cfg(test)]

@@ -7,23 +7,38 @@ use std::env;
 use std::io::{self, Read};
 use std::process::ExitCode;
 
-// What to show a policy as.
-#[derive(Clone, Copy)]
-enum Form {
-    Table,
-    Graph,
+fn main(rt: HostRuntime) -> io::Result<ExitCode> {
+    let Ok(arguments) = env::args(&rt) else {
+        return usage(&rt);
+    };
+    // The first is the program's name.
+    let mut words = arguments.skip(1);
+    let Some(word) = words.next() else {
+        return show(&rt, overview::table);
+    };
+    if word.as_str() == "dot" && words.next().is_none() {
+        show(&rt, overview::graph)
+    } else {
+        usage(&rt)
+    }
 }
 
-fn main(rt: HostRuntime) -> io::Result<ExitCode> {
-    let Some(form) = asked(&rt) else {
-        eprintln!(rt; "usage: show_policy [dot] < TRACE")?;
-        return Ok(ExitCode::FAILURE);
-    };
+fn usage(rt: &HostRuntime) -> io::Result<ExitCode> {
+    eprintln!(rt; "usage: show_policy [dot] < TRACE")?;
+    Ok(ExitCode::FAILURE)
+}
+
+// Prints the overview of the policy, or why it is refused.
+fn show<F>(rt: &HostRuntime, overview: F) -> io::Result<ExitCode>
+where
+    F: FnOnce(Global, &Policy) -> Result<String, AllocError>,
+    requires { F.IsAlwaysCallable overview }
+{
     let mut bytes = Vec::new(rt.alloc());
     rt.stdin().read_to_end(&mut bytes)?;
     match wire::read_policy(bytes.as_slice(), 64) {
         Ok(policy) => {
-            let text = show(rt.alloc(), &policy, form)?;
+            let text = overview(rt.alloc(), &policy)?;
             rt.print(text.as_str())?;
             Ok(ExitCode::SUCCESS)
         }
@@ -31,28 +46,5 @@ fn main(rt: HostRuntime) -> io::Result<ExitCode> {
             eprintln!(rt; "{refusal}")?;
             Ok(ExitCode::FAILURE)
         }
-    }
-}
-
-// The form that the arguments ask for, if there is one; the first is the program's name.
-fn asked(rt: &HostRuntime) -> Option<Form> {
-    let Ok(mut arguments) = env::args(rt) else {
-        return None;
-    };
-    let _ = arguments.next();
-    let Some(word) = arguments.next() else {
-        return Some(Form::Table);
-    };
-    if word.as_str() == "dot" && arguments.next().is_none() {
-        Some(Form::Graph)
-    } else {
-        None
-    }
-}
-
-fn show(heap: Global, policy: &Policy, form: Form) -> Result<String, AllocError> {
-    match form {
-        Form::Table => overview::table(heap, policy),
-        Form::Graph => overview::graph(heap, policy),
     }
 }

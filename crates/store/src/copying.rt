@@ -65,7 +65,7 @@ pub(crate) fn between(
     let rows = counts.destination - copying.count + copying.total;
     let start = written.place.start;
     let end = start + (2 + 2 * written.place.capacity);
-    compartment::raise(&mut memory[start..end], start, written.compartment, rows)?;
+    compartment::raise(&mut memory[start..end], written, rows)?;
     merge::merge_into(memory, copying);
     Ok(())
 }
@@ -79,5 +79,5 @@ pub(crate) fn into_itself(memory: &mut [u64], written: Written) -> Result<(), Re
     let start = written.place.start;
     let end = start + (2 + 2 * written.place.capacity);
     let rows = memory[start + 1] as usize;
-    compartment::raise(&mut memory[start..end], start, written.compartment, rows)
+    compartment::raise(&mut memory[start..end], written, rows)
 }

@@ -10,7 +10,7 @@ mod copying;
 pub mod laws;
 mod reply;
 
-use policy::{Policy, Refusal, Written};
+use policy::{Policy, Refusal};
 use query::{Outcome, Query};
 pub use reply::Reply;
 use request::Request;
@@ -38,12 +38,12 @@ pub fn write(policy: &Policy, memory: &mut [u64], user: usize, row: Row) -> Resu
     if long < policy.memory_length() {
         return Err(Refusal::OutOfBounds { place: long });
     }
-    let Some(Written { compartment, place }) = policy.written(user) else {
+    let Some(written) = policy.written(user) else {
         return Err(Refusal::NoUser { user });
     };
-    let start = place.start;
-    let end = start + (2 + 2 * place.capacity);
-    compartment::write(&mut memory[start..end], start, compartment, row)
+    let start = written.place.start;
+    let end = start + (2 + 2 * written.place.capacity);
+    compartment::write(&mut memory[start..end], written, row)
 }
 
 // The row with the key goes from there.
@@ -55,12 +55,12 @@ pub fn delete(policy: &Policy, memory: &mut [u64], user: usize, key: u32) -> Res
     if long < policy.memory_length() {
         return Err(Refusal::OutOfBounds { place: long });
     }
-    let Some(Written { compartment, place }) = policy.written(user) else {
+    let Some(written) = policy.written(user) else {
         return Err(Refusal::NoUser { user });
     };
-    let start = place.start;
-    let end = start + (2 + 2 * place.capacity);
-    compartment::delete(&mut memory[start..end], start, compartment, key)
+    let start = written.place.start;
+    let end = start + (2 + 2 * written.place.capacity);
+    compartment::delete(&mut memory[start..end], written, key)
 }
 
 // The rows of a range of a compartment that the user sees come to where the user writes, one by one: all of them, or none.

@@ -63,9 +63,6 @@ number_is layout bytes i d h l =
     single_is layout.single i d bytes _ l
     (λ few. words_short layout.width layout.wide _ (let all = words_all layout.single bytes (omega arith) in simp length-drop (omega arith)))
 
-pub never : {A : Type 0} (P : Type 0) (a : A) → ◌≡◌ {A = Option A} (Some a) None → P
-never P a h = let z : ◌≡◌ {A = ℕ} 0 1 = cc in absurd (omega arith)
-
 pub some_same : {A : Type 0} (a b : A) → ◌≡◌ {A = Option A} (Some a) (Some b) → a ≡ b
 some_same a b h = cc
 
@@ -90,11 +87,11 @@ query_single Shared layout e = sym (ap (λ (l : Layout). l.single) (some_same _ 
 
 suits : (k : Option Kind) (q r : Option QueryKind) (layout : Layout) → kind_layout k q ≡ Some layout →
     (layout.single ≡ 3 → r ≡ q) → Suits (kind_bounds k r) layout
-suits None q r layout e s = never _ _ (sym e)
+suits None q r layout e s = absurd cc
 suits (Some Write) q r layout e s = fits _ layout _ e (record { starts = omega arith; fours = refl; all = refl })
 suits (Some Delete) q r layout e s = fits _ layout _ e (record { starts = omega arith; fours = refl; all = refl })
 suits (Some Copy) q r layout e s = fits _ layout _ e (record { starts = omega arith; fours = refl; all = refl })
-suits (Some Query) None r layout e s = never _ _ (sym e)
+suits (Some Query) None r layout e s = absurd cc
 suits (Some Query) (Some q) r layout e s = rw (s (query_single q layout e)) (query_suits q layout e)
 
 -- the kinds that the numbers have are those in the bytes
@@ -138,13 +135,13 @@ cut_short layout bytes q known short h =
     omega (arith, exact.all)
 
 no_layout : (k : Kind) (q : Option QueryKind) → kind_layout (Some k) q ≡ None → (k ≡ Query) × (q ≡ None)
-no_layout Write q e = never _ _ e
-no_layout Delete q e = never _ _ e
-no_layout Copy q e = never _ _ e
+no_layout Write q e = absurd cc
+no_layout Delete q e = absurd cc
+no_layout Copy q e = absurd cc
 no_layout Query None e = (refl, refl)
-no_layout Query (Some Rows) e = never _ _ e
-no_layout Query (Some Total) e = never _ _ e
-no_layout Query (Some Shared) e = never _ _ e
+no_layout Query (Some Rows) e = absurd cc
+no_layout Query (Some Total) e = absurd cc
+no_layout Query (Some Shared) e = absurd cc
 
 -- nor is a request of an unknown kind
 unknown : (bytes : List ℕ) (q : Request) → request_layout bytes ≡ None → decoded (numbers_in front_layout bytes) ≡ Ok q → ⊥
@@ -160,7 +157,7 @@ unknown bytes q none h =
     let both = no_layout k (query_kind_in bytes) is in
     let query : request_of Query user xs ≡ Ok q = subst (λ (k : Kind). request_of k user xs ≡ Ok q) both.0 h in
     passes ⊥ (query_kind_at xs) _ q query (λ asked ha h.
-    never ⊥ asked (sym (query_kind_known xs asked ha).0 ∙ queries ∙ both.1))))
+    let no : ◌≡◌ {A = Option QueryKind} (Some asked) None = sym (query_kind_known xs asked ha).0 ∙ queries ∙ both.1 in absurd cc)))
 
 -- what is not read is refused at its place
 refused : (xs : List ℕ) (r : Result Request Refusal) → decoded xs ≡ r → ((q : Request) → r ≡ Ok q → ⊥) →
@@ -172,14 +169,14 @@ refused xs (Err e) h not_read = let low = lowest_fault xs e h in rw low.1
 ended : (short : Bool) (r : Result Request Refusal) (user n place : ℕ) →
     cond short (End (place_at_fault r)) (whole user n r) ≡ End place → (short ≡ true) × (place_at_fault r ≡ place)
 ended true r user n place h = (refl, cc)
-ended false (Ok q) user n place h = let z : ◌≡◌ {A = ℕ} 0 1 = cc in absurd (omega arith)
-ended false (Err e) user n place h = let z : ◌≡◌ {A = ℕ} 0 1 = cc in absurd (omega arith)
+ended false (Ok q) user n place h = absurd cc
+ended false (Err e) user n place h = absurd cc
 
 at_fault : (short : Bool) (r : Result Request Refusal) (u n user place length : ℕ) →
     cond short (End (place_at_fault r)) (whole u n r) ≡ Fault user place length → ((q : Request) → r ≡ Ok q → ⊥) × (place_at_fault r ≡ place)
-at_fault true r u n user place length h = let z : ◌≡◌ {A = ℕ} 0 1 = cc in absurd (omega arith)
-at_fault false (Ok q) u n user place length h = let z : ◌≡◌ {A = ℕ} 0 1 = cc in absurd (omega arith)
-at_fault false (Err e) u n user place length h = ((λ q i. let z : ◌≡◌ {A = ℕ} 0 1 = cc in omega arith), cc)
+at_fault true r u n user place length h = absurd cc
+at_fault false (Ok q) u n user place length h = absurd cc
+at_fault false (Err e) u n user place length h = ((λ q i. cc), cc)
 
 ends : (bytes : List ℕ) (o : Option Layout) (place : ℕ) → request_layout bytes ≡ o → next_by o bytes ≡ End place →
     decoded (numbers_by o bytes) ≡ Err (NoRequest place)
@@ -197,7 +194,7 @@ ends bytes (Some layout) place e h =
 
 faults : (bytes : List ℕ) (o : Option Layout) (user place length : ℕ) → next_by o bytes ≡ Fault user place length →
     decoded (numbers_by o bytes) ≡ Err (NoRequest place)
-faults bytes None user place n h = let z : ◌≡◌ {A = ℕ} 0 1 = cc in absurd (omega arith)
+faults bytes None user place n h = absurd cc
 faults bytes (Some layout) user place n h =
     let xs : List ℕ = numbers_in layout bytes in
     let fault = at_fault (ltb (length bytes) (size layout)) (decoded xs) (get_or bytes 1 0) (size layout) user place n h in

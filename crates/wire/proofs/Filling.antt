@@ -1,13 +1,12 @@
 -- Numbers are written one after the other: what is written and what is still to come are the whole.
-use Rattle.std.proofs.Common.{◌≡◌, ℕ, zero, suc, ◌+◌, ◌-◌, ◌<◌, ◌≤◌, ◌⊎◌, List, [], ◌∷◌, ◌++◌, length, take, drop, set, sym, refl, ap, ◌∙◌, inl, inr, append_assoc, append-nil, arith, length-drop, length-take, drop-drop, drop-set-lt}
+use Rattle.std.proofs.Common.{◌≡◌, ℕ, zero, suc, ◌+◌, ◌-◌, ◌*◌, ◌<◌, ◌≤◌, ◌⊎◌, List, [], ◌∷◌, ◌++◌, length, take, drop, set, sym, refl, ap, ◌∙◌, inl, inr, append_assoc, append-nil, mul-zero, mul-suc, arith, length-drop, length-take, drop-drop, drop-set-lt}
 use Rattle.std.proofs.lemmas.List.{take_more_set, take-append-drop}
 use Rattle.std.proofs.lemmas.Bool.Decides.{nat_tests}
 use Rattle.wire.specs.Bytes.{low_first, words}
 
--- of the numbers that a slice `old` is filled with, `place` are written, from `at` bytes
-pub record Filled (width : ℕ) (bytes old numbers : List ℕ) (place at : ℕ) : Type 0 where
-  pub within : at ≤ length bytes
-  pub front : take place numbers ++ words width (length old - place) (drop at bytes) ≡ words width (length old) bytes
+-- of the numbers that a slice `old` is filled with, `place` are written, and the rest of the bytes is to come
+pub record Filled (width : ℕ) (bytes old numbers rest : List ℕ) (place : ℕ) : Type 0 where
+  pub front : take place numbers ++ words width (length old - place) rest ≡ words width (length old) bytes
   pub back : drop place numbers ≡ drop place old
 
 pub words_more : (width n m : ℕ) (bytes : List ℕ) → n ≡ suc m → width ≤ length bytes →
@@ -18,30 +17,24 @@ pub words_short : (width n : ℕ) (bytes : List ℕ) → length bytes < width �
 words_short width zero bytes l = refl
 words_short width (suc n) bytes l = grind (arith, nat_tests)
 
-module _ (width : ℕ) (bytes old numbers : List ℕ) (place at : ℕ) (f : Filled width bytes old numbers place at) (same : length numbers ≡ length old) where
-  pub filled_more : (next : ℕ) → next ≡ low_first (take (at + width - at) (drop at bytes)) → place < length old → width ≤ length bytes - at →
-      Filled width bytes old (set numbers place next) (place + 1) (at + width)
+module _ (width : ℕ) (bytes old numbers rest : List ℕ) (place : ℕ) (f : Filled width bytes old numbers rest place) (same : length numbers ≡ length old) where
+  pub filled_more : (next : ℕ) → next ≡ low_first (take width rest) → place < length old → width ≤ length rest →
+      Filled width bytes old (set numbers place next) (drop width rest) (place + 1)
   filled_more next e h l =
-      let long : at + width - at ≡ width = omega arith in
-      let is : next ≡ low_first (take width (drop at bytes)) = rw long at e in
       let inside : place < length numbers = omega arith in
-      let le : width ≤ length (drop at bytes) = simp length-drop l in
-      let more = words_more width (length old - place) (length old - (place + 1)) (drop at bytes) (omega arith) le in
+      let more = words_more width (length old - place) (length old - (place + 1)) rest (omega arith) l in
       record {
-        within = omega (arith, f.within);
-        front =
-            rw (take_more_set numbers place next inside, append_assoc, is)
-            (rw (← drop-drop width at bytes, ← more) f.front);
+        front = rw (take_more_set numbers place next inside, append_assoc, e, ← more) f.front;
         back =
             drop-set-lt (place + 1) numbers place next (omega arith)
             ∙ sym (drop-drop 1 place numbers) ∙ ap (λ (xs : List ℕ). drop 1 xs) f.back ∙ drop-drop 1 place old;
       }
 
-  nothing_more : (place ≡ length old) ⊎ (length bytes - at < width) → words width (length old - place) (drop at bytes) ≡ []
+  nothing_more : (place ≡ length old) ⊎ (length rest < width) → words width (length old - place) rest ≡ []
   nothing_more (inl e) = let z : length old - place ≡ 0 = omega arith in rw z
-  nothing_more (inr h) = words_short width (length old - place) (drop at bytes) (simp length-drop h)
+  nothing_more (inr h) = words_short width (length old - place) rest h
 
-  pub filled_done : (count : ℕ) → count ≡ place → (place ≡ length old) ⊎ (length bytes - at < width) → place ≤ length old →
+  pub filled_done : (count : ℕ) → count ≡ place → (place ≡ length old) ⊎ (length rest < width) → place ≤ length old →
       (count ≡ length (words width (length old) bytes)) × (numbers ≡ words width (length old) bytes ++ drop count old)
   filled_done count e h l =
       let none = nothing_more h in
@@ -59,9 +52,10 @@ words_most width zero bytes = omega arith
 words_most width (suc n) bytes = let more = words_most width n (drop width bytes) in grind (arith, nat_tests)
 
 -- nor than there are bytes
-pub words_bytes : (width n : ℕ) (bytes : List ℕ) → 0 < width → length (words width n bytes) ≤ length bytes
-words_bytes width zero bytes h = omega arith
-words_bytes width (suc n) bytes h =
-    let more = words_bytes width n (drop width bytes) h in
+pub words_bytes : (width n : ℕ) (bytes : List ℕ) → width * length (words width n bytes) ≤ length bytes
+words_bytes width zero bytes = rw (mul-zero width) (omega arith)
+words_bytes width (suc n) bytes =
+    let more = words_bytes width n (drop width bytes) in
     let left = length-drop width bytes in
+    let product = mul-suc width (length (words width n (drop width bytes))) in
     grind (arith, nat_tests)

@@ -1,6 +1,6 @@
 -- Two parts of a slice are filled one after the other: the whole is filled.
-use Rattle.std.proofs.Common.{◌≡◌, ℕ, zero, suc, ◌+◌, ◌-◌, ◌≤◌, List, [], ◌∷◌, ◌++◌, length, take, drop, sym, refl, ap, ◌∙◌, append_assoc, arith, length-append, length-drop, length-take, drop-drop}
-use borrow.Rule.Slice.PartMut.{put_mid, post_of}
+use Rattle.std.proofs.Common.{◌≡◌, ℕ, zero, suc, ◌+◌, ◌-◌, ◌≤◌, List, [], ◌∷◌, ◌++◌, length, take, drop, sym, refl, ap, ◌∙◌, append_assoc, arith, length-drop, length-take, drop-drop}
+use borrow.Rule.Slice.PartMut.{post_of}
 use Rattle.std.proofs.lemmas.List.{take-append-drop, take_at, drop_at, take_rest}
 use Rattle.wire.specs.declared.layout.Layout.{Layout}
 use Rattle.wire.specs.Bytes.{words, numbers_in}
@@ -19,11 +19,11 @@ part_filled new old s n h = append_assoc new (drop s (take n old)) (drop n old) 
 
 module _ (layout : Layout) (bytes old first second : List ℕ) (s t : ℕ) (fits : layout.single + layout.wide ≤ length old) where
   abbrev part : List ℕ
-  part = take (layout.single - 0) old
+  part = take layout.single old
 
   -- the slice after the first
   abbrev middle : List ℕ
-  middle = first ++ post_of 0 (layout.single - 0) old
+  middle = first ++ drop layout.single old
 
   abbrev next : List ℕ
   next = take (s + layout.wide - s) (drop s middle)
@@ -51,8 +51,7 @@ module _ (layout : Layout) (bytes old first second : List ℕ) (s t : ℕ) (fits
 
     middle_is : middle ≡ singles ++ drop s old
     middle_is =
-        let le : s ≤ layout.single - 0 = omega (arith, s_most) in
-        rw (first_is, part_long) (part_filled singles old s (layout.single - 0) le)
+        rw (first_is, part_long) (part_filled singles old s layout.single s_most)
 
     drop_middle : drop s middle ≡ drop s old
     drop_middle = rw middle_is (drop_at singles (drop s old) s (sym s_singles))
@@ -75,20 +74,10 @@ module _ (layout : Layout) (bytes old first second : List ℕ) (s t : ℕ) (fits
     all_are : numbers_in layout bytes ≡ singles ++ wides
     all_are = rw s_singles
 
-    pub both_count : s + t ≡ length (numbers_in layout bytes)
-    both_count = rw all_are (simp length-append (omega (arith, s_singles, t_wides)))
-
-    pub both_within : s + t ≤ length old
-    both_within = omega (arith, s_most, t_most)
-
-    pub both_after : put_mid s (s + layout.wide - s) middle second ≡ numbers_in layout bytes ++ drop (s + t) old
+    pub both_after : take s middle ++ (second ++ post_of s (s + layout.wide - s) middle) ≡ numbers_in layout bytes ++ drop (s + t) old
     both_after =
         let wide : s + layout.wide - s ≡ layout.wide = omega arith in
         let front : take s middle ≡ singles = rw middle_is (take_at singles (drop s old) s (sym s_singles)) in
         let back : second ++ drop layout.wide (drop s old) ≡ wides ++ drop t (drop s old) =
         rw (second_is, wides_are, next_is) (part_filled wides (drop s old) t layout.wide t_most) in
         rw (all_are, append_assoc, ← drop-drop t s old) (rw (front, wide, drop_middle, back))
-
--- what was filled is read again
-pub front_is : (xs ys zs : List ℕ) (n : ℕ) → n ≡ length xs → zs ≡ xs ++ ys → take (n - 0) zs ≡ xs
-front_is xs ys zs n e h = rw h (take_at xs ys (n - 0) (omega arith))

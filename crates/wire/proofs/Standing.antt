@@ -19,7 +19,7 @@ use Rattle.wire.specs.declared.item.Next.TheVariants.{End}
 use Rattle.wire.specs.NextRequest.{next_by, kind_in, query_kind_in, query_layout, kind_layout, request_layout, place_at_fault, whole}
 use Rattle.wire.specs.Bytes.{low_first, words, numbers_in, size}
 use Rattle.wire.specs.Written.{low_bytes, written, bytes_first, bytes_of, AllLess, RequestStands}
-use Rattle.wire.proofs.Ends.{some_same, never, query_single, kind_same, bounds_suit}
+use Rattle.wire.proofs.Ends.{some_same, query_single, kind_same, bounds_suit}
 use Rattle.wire.proofs.Filling.{words_more, words_most}
 
 words_take : (n : ℕ) (bytes : List ℕ) → words 1 n bytes ≡ take n bytes
@@ -66,9 +66,9 @@ written_words (suc n) (a ∷ b ∷ c ∷ d ∷ bytes) h small =
 
 read_by : (short : Bool) (r : Result Request Refusal) (user n m : ℕ) (q : Request) →
     cond short (End (place_at_fault r)) (whole user n r) ≡ Next.Request q m → (short ≡ false) × (r ≡ Ok q) × (n ≡ m)
-read_by true r user n m q h = let z : ◌≡◌ {A = ℕ} 0 1 = cc in absurd (omega arith)
+read_by true r user n m q h = absurd cc
 read_by false (Ok p) user n m q h = (refl, cc, cc)
-read_by false (Err e) user n m q h = let z : ◌≡◌ {A = ℕ} 0 1 = cc in absurd (omega arith)
+read_by false (Err e) user n m q h = absurd cc
 
 bounds_long : (q : Request) → length (bounds (numbers_of q)) ≡ length (numbers_of q)
 bounds_long (Write user row) = refl
@@ -82,7 +82,7 @@ single_of : (layout l : Layout) → ◌≡◌ {A = Option Layout} (Some l) (Some
 single_of layout l e = ap (λ (l : Layout). l.single) (some_same l layout e)
 
 query_first : (asked : Option QueryKind) (layout : Layout) → query_layout asked ≡ Some layout → 3 ≡ layout.single
-query_first None layout e = never _ _ (sym e)
+query_first None layout e = absurd cc
 query_first (Some q) layout e = sym (query_single q layout e)
 
 bytes_first_is : (q : Request) (asked : Option QueryKind) (layout : Layout) →
@@ -159,7 +159,7 @@ module _ (layout : Layout) (bytes : List ℕ) (four : layout.width ≡ 4) (small
 
 stands : (bytes : List ℕ) (o : Option Layout) (q : Request) (n : ℕ) → request_layout bytes ≡ o → AllLess 256 bytes → next_by o bytes ≡ Next.Request q n →
     WithinBounds q × (n ≡ length (bytes_of q)) × (bytes ≡ bytes_of q ++ drop n bytes)
-stands bytes None q n known small h = let z : ◌≡◌ {A = ℕ} 0 1 = cc in absurd (omega arith)
+stands bytes None q n known small h = absurd cc
 stands bytes (Some layout) q n known small h =
     let xs : List ℕ = numbers_in layout bytes in
     let read = read_by (ltb (length bytes) (size layout)) (decoded xs) (get_or bytes 1 0) (size layout) n q h in

@@ -1,5 +1,6 @@
 -- The next request in bytes: read, at fault but whole, or the end of the trace.
 use Rattle.std.specs.Prelude.{◌≡◌, ℕ, ◌+◌, ◌<◌, ◌≤◌, cond, List, length, Some, None, Ok, Err, Option, Result, nat_lt, slice_index}
+use Rattle.std.specs.Result.{result_ok}
 use Rattle.policy.specs.declared.refusal.Refusal.{Refusal}
 use Rattle.policy.specs.declared.refusal.Refusal.TheVariants.{OutOfBounds, BadView, NoRequest, NoUser, NoFlow, NoRoom, NoRow, ShortRow, LastVersion}
 use Rattle.request.specs.declared.Request.{Request}
@@ -37,6 +38,11 @@ kind_in bytes = cond (nat_lt 0 (length bytes)) (kind_numbered (slice_index bytes
 
 abbrev pub query_kind_in : List ℕ → Option QueryKind
 query_kind_in bytes = cond (nat_lt 2 (length bytes)) (query_numbered (slice_index bytes 2)) None
+
+-- what is read there is a kind if one is made of the byte
+abbrev pub KindIn : {A E : Type 0} → (ℕ → Result A E → Type 0) → Option ℕ → Option A → Type 0
+KindIn gives None kind = kind ≡ None
+KindIn {A} {E} gives (Some byte) kind = (made : Result A E) × gives byte made × (kind ≡ result_ok made)
 
 -- how the request lies in the bytes, if its kind is known and, for a query, the kind of query
 abbrev pub request_layout : List ℕ → Option Layout

@@ -19,8 +19,7 @@ pub use item::Next;
 pub use laws::{
     policy_round_trip_stands, refused_at_place_stands, request_round_trip_stands, request_stands,
 };
-use numbers::numbers_in;
-use policies::{MOST_NUMBERS, policy_layout, read_by};
+use policies::{MOST_NUMBERS, policy_layout};
 use policy::{Policy, Refusal};
 use requests::{decode_by, fours, place_at_fault, request_layout};
 
@@ -35,7 +34,7 @@ pub fn next(bytes: &[u8]) -> Next
         };
     };
     let decoded = decode_by(layout, bytes);
-    let length = layout.single + layout.width * layout.wide;
+    let length = layout.size();
     if bytes.len() < length {
         return Next::End {
             place: place_at_fault(decoded),
@@ -43,9 +42,9 @@ pub fn next(bytes: &[u8]) -> Next
     }
     match decoded {
         Ok(request) => Next::Request { request, length },
-        Err(refusal) => Next::Fault {
+        Err(_) => Next::Fault {
             user: bytes[1],
-            place: place_at_fault(Err(refusal)),
+            place: place_at_fault(decoded),
             length,
         },
     }
@@ -61,7 +60,7 @@ pub fn policy_numbers(bytes: &[u8], numbers: &mut [u64]) -> usize
     if numbers.len() < MOST_NUMBERS {
         return 0;
     }
-    numbers_in(policy_layout(bytes), bytes, numbers)
+    policy_layout(bytes).fill(bytes, numbers)
 }
 
 // The policy at the front of the bytes, with capacities of at most `most` rows, and never more than 4,096.
@@ -69,82 +68,81 @@ pub fn read_policy(bytes: &[u8], most: u64) -> Result<Policy, Refusal>
     ensures refused { why result ≡ judged (min most 4096) (policy_of bytes.now) }
     ensures reads { IfOk result (λ p. Reads (policy_of bytes.now) p) }
 {
-    read_by(policy_layout(bytes), bytes, most)
+    let layout = policy_layout(bytes);
+    Policy::read(layout.read(bytes, &mut [0; MOST_NUMBERS]), most)
 }
 
 // How many bytes the policy takes: where the requests begin.
 pub fn policy_length(bytes: &[u8]) -> usize
     ensures { result ≡ size (policy_layout bytes.now) }
 {
-    let policy = policy_layout(bytes);
-    policy.single + policy.width * policy.wide
+    policy_layout(bytes).size()
 }
 
 #[cfg(test)]
 mod tests {
     use super::*;
 
-    fn length_read(bytes: &[u8]) -> Option<usize> {
-        match next(bytes) {
-            Next::Request { length, .. } => Some(length),
-            _ => None,
-        }
-    }
-
-    fn fault(bytes: &[u8]) -> Option<(u8, usize, usize)> {
-        match next(bytes) {
-            Next::Fault {
-                user,
-                place,
-                length,
-            } => Some((user, place, length)),
-            _ => None,
-        }
-    }
-
-    fn end(bytes: &[u8]) -> Option<usize> {
-        match next(bytes) {
-            Next::End { place } => Some(place),
-            _ => None,
-        }
-    }
-
     #[test]
     fn reads_requests(rt: HostRuntime) {
-        assert_eq!(rt;
-            length_read(&[0, 31, 1, 0, 0, 0, 255, 255, 255, 255, 7]),
-            Some(10)
+        assert!(rt;
+            matches!(
+                next(&[0, 31, 1, 0, 0, 0, 255, 255, 255, 255, 7]),
+                Next::Request { length: 10, .. }
+            )
         );
-        assert_eq!(rt; length_read(&[1, 5, 1, 0, 0, 0]), Some(6));
-        assert_eq!(rt;
-            length_read(&[2, 5, 15, 0, 0, 0, 1, 0, 0, 0, 2, 0, 0, 0]),
-            Some(14)
+        assert!(rt; matches!(next(&[1, 5, 1, 0, 0, 0]), Next::Request { length: 6, .. }));
+        assert!(rt;
+            matches!(
+                next(&[2, 5, 15, 0, 0, 0, 1, 0, 0, 0, 2, 0, 0, 0]),
+                Next::Request { length: 14, .. }
+            )
         );
-        assert_eq!(rt; length_read(&[3, 5, 1, 1, 0, 0, 0, 2, 0, 0, 0]), Some(11));
+        assert!(rt;
+            matches!(
+                next(&[3, 5, 1, 1, 0, 0, 0, 2, 0, 0, 0]),
+                Next::Request { length: 11, .. }
+            )
+        );
     }
 
     #[test]
     fn goes_on_behind_a_fault(rt: HostRuntime) {
-        assert_eq!(rt; fault(&[1, 32, 1, 0, 0, 0]), Some((32, 1, 6)));
         assert_eq!(rt;
-            fault(&[2, 5, 16, 0, 0, 0, 1, 0, 0, 0, 2, 0, 0, 0]),
-            Some((5, 2, 14))
+            next(&[1, 32, 1, 0, 0, 0]),
+            Next::Fault {
+                user: 32,
+                place: 1,
+                length: 6
+            }
         );
         assert_eq!(rt;
-            fault(&[2, 5, 0, 1, 0, 0, 1, 0, 0, 0, 2, 0, 0, 0]),
-            Some((5, 2, 14))
+            next(&[2, 5, 16, 0, 0, 0, 1, 0, 0, 0, 2, 0, 0, 0]),
+            Next::Fault {
+                user: 5,
+                place: 2,
+                length: 14
+            }
+        );
+        assert_eq!(rt;
+            next(&[2, 5, 0, 1, 0, 0, 1, 0, 0, 0, 2, 0, 0, 0]),
+            Next::Fault {
+                user: 5,
+                place: 2,
+                length: 14
+            }
         );
     }
 
     #[test]
     fn ends_at_the_lowest_fault(rt: HostRuntime) {
-        assert_eq!(rt; end(&[]), Some(0));
-        assert_eq!(rt; end(&[4, 200, 9]), Some(0));
-        assert_eq!(rt; end(&[3, 200, 9]), Some(1));
-        assert_eq!(rt; end(&[3, 31, 3]), Some(2));
-        assert_eq!(rt; end(&[3, 200]), Some(1));
-        assert_eq!(rt; end(&[0, 31, 1, 0, 0]), Some(2));
-        assert_eq!(rt; end(&[0, 31, 1, 0, 0, 0, 1, 0, 0]), Some(3));
+        assert_eq!(rt; next(&[]), Next::End { place: 0 });
+        assert_eq!(rt; next(&[4, 200, 9]), Next::End { place: 0 });
+        assert_eq!(rt; next(&[3, 200, 9]), Next::End { place: 1 });
+        assert_eq!(rt; next(&[3, 31, 3]), Next::End { place: 2 });
+        assert_eq!(rt; next(&[3, 200]), Next::End { place: 1 });
+        assert_eq!(rt; next(&[0, 31, 1, 0, 0]), Next::End { place: 2 });
+        assert_eq!(rt; next(&[0, 31, 1, 0, 0, 0, 1, 0, 0]), Next::End { place: 3 });
     }
 
     #[test]

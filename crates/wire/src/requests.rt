@@ -1,36 +1,25 @@
 // How requests lie in bytes.
 ghost use Rattle.request.specs.Decoded.{decoded};
-ghost use Rattle.std.specs.Prelude.{◌≡◌, IfSome};
+ghost use Rattle.std.specs.Prelude.{◌≡◌, IfSome, slice_get};
 ghost use Rattle.wire.specs.Bytes.{numbers_in};
-ghost use Rattle.wire.specs.NextRequest.{OfRequest, fours, kind_in, place_at_fault, query_kind_in, query_layout, request_layout};
+ghost use Rattle.wire.specs.NextRequest.{KindIn, OfRequest, fours, place_at_fault, request_layout};
 
 use crate::layout::Layout;
-use crate::numbers::numbers_in;
 use policy::Refusal;
-use request::{Kind, QueryKind, Request, decode, kind_numbered, query_numbered};
+use request::{Kind, QueryKind, Request, decode};
 
-fn kind_in(bytes: &[u8]) -> Option<Kind>
-    ensures { result ≡ kind_in bytes.now }
+// The kind whose number is the byte there.
+fn kind_in<K: TryFrom<u64>>(bytes: &[u8], place: usize) -> Option<K>
+where
+    K::Error: Drop,
+    ensures { KindIn K.try_from_gives (slice_get bytes.now place) result }
 {
-    if 0 < bytes.len() {
-        kind_numbered(bytes[0] as u64)
-    } else {
-        None
-    }
-}
-
-fn query_kind_in(bytes: &[u8]) -> Option<QueryKind>
-    ensures { result ≡ query_kind_in bytes.now }
-{
-    if 2 < bytes.len() {
-        query_numbered(bytes[2] as u64)
-    } else {
-        None
-    }
+    let byte = *bytes.get(place)?;
+    K::try_from(u64::from(byte)).ok()
 }
 
 // So many numbers of a byte each, then so many of four.
-pub(crate) fn fours(single: usize, wide: usize) -> Layout
+pub(crate) fn fours(single: u16, wide: u8) -> Layout
     ensures { result ≡ fours single wide }
 {
     Layout {
@@ -40,30 +29,21 @@ pub(crate) fn fours(single: usize, wide: usize) -> Layout
     }
 }
 
-fn query_layout(kind: Option<QueryKind>) -> Option<Layout>
-    ensures value { result ≡ query_layout kind }
-    ensures few { IfSome result OfRequest }
-{
-    match kind {
-        None => None,
-        Some(QueryKind::Rows) => Some(fours(3, 2)),
-        Some(QueryKind::Total) => Some(fours(3, 2)),
-        Some(QueryKind::Shared) => Some(fours(3, 4)),
-    }
-}
-
 // How the request lies in the bytes, if its kind is known and, for a query, the kind of query.
 pub(crate) fn request_layout(bytes: &[u8]) -> Option<Layout>
     ensures value { result ≡ request_layout bytes.now }
     ensures few { IfSome result OfRequest }
 {
-    match kind_in(bytes) {
-        None => None,
-        Some(Kind::Write) => Some(fours(2, 2)),
-        Some(Kind::Delete) => Some(fours(2, 1)),
-        Some(Kind::Copy) => Some(fours(2, 3)),
-        Some(Kind::Query) => query_layout(query_kind_in(bytes)),
-    }
+    let layout = match kind_in(bytes, 0)? {
+        Kind::Write => fours(2, 2),
+        Kind::Delete => fours(2, 1),
+        Kind::Copy => fours(2, 3),
+        Kind::Query => match kind_in(bytes, 2)? {
+            QueryKind::Rows | QueryKind::Total => fours(3, 2),
+            QueryKind::Shared => fours(3, 4),
+        },
+    };
+    Some(layout)
 }
 
 // The request that the numbers in the bytes stand for.
@@ -71,9 +51,7 @@ pub(crate) fn decode_by(layout: Layout, bytes: &[u8]) -> Result<Request, Refusal
     requires { OfRequest layout }
     ensures { result ≡ decoded (numbers_in layout bytes.now) }
 {
-    let mut numbers = [0; 7];
-    let count = numbers_in(layout, bytes, &mut numbers);
-    decode(&numbers[0..count])
+    decode(layout.read(bytes, &mut [0; 7]))
 }
 
 // The place at which numbers are refused.

@@ -1,4 +1,3 @@
 -- Lemmas on what the functions write.
-pub mod Clipped
+pub mod Pairs
 pub mod Turns
-pub mod Pieces

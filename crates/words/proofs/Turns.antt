@@ -1,21 +1,29 @@
 -- Words written one by one: a turn writes one of those that are left.
-use Rattle.std.proofs.Common.{◌≡◌, ℕ, ◌+◌, eqb, List, [], ◌∷◌, ◌++◌, refl, inl, inr, arith}
-use Rattle.std.proofs.lemmas.List.{append_assoc, append-nil}
-use Rattle.std.proofs.lemmas.Bool.{cases_Bool, cond-false, ne_eqb}
-use Rattle.words.specs.Blanks.{blank, onward}
-use Rattle.words.specs.Words.{spaced}
+use Rattle.std.proofs.Common.{◌≡◌, ℕ, ◌≤◌, List, [], ◌∷◌, ◌++◌, codes, length, map, drop, refl, sym, ◌∙◌, append_assoc, append-nil}
+use Rattle.std.proofs.lemmas.List.{drop_all}
+use Rattle.std.specs.List.{flat_map, join_by}
 
-later : (i : ℕ) (ws : List (List ℕ)) → onward (i + 1) ws ≡ spaced ws
-later i ws = cond-false (eqb (i + 1) 0) _ _ (ne_eqb (i + 1) 0 (λ z. omega arith))
+module _ {X : Type 0} (word : X → List ℕ) where
+  -- what is written of some words, the first with `blank` before it
+  abbrev pub led : List ℕ → List X → List ℕ
+  led blank [] = []
+  led blank (x ∷ xs) = blank ++ (word x ++ flat_map (λ y. codes " " ++ word y) xs)
 
--- t with the blank is u, u with the word is v
-pub word_turn : (t u v w : List ℕ) (ws : List (List ℕ)) (i : ℕ) → u ≡ t ++ blank i → v ≡ u ++ w → v ++ onward (i + 1) ws ≡ t ++ onward i (w ∷ ws)
-word_turn t u v w ws i e f =
-    rw (f, e, later i ws)
-    (elim (cases_Bool (eqb i 0)) [
-      | inl z ↦ rw (z, append-nil t) (append_assoc t w (spaced ws))
-      | inr z ↦ rw z (simp append_assoc)
-    ])
+  pub led_first : (xs : List X) → led [] xs ≡ join_by word (codes " ") xs
+  led_first [] = refl
+  led_first (x ∷ xs) = refl
 
-pub word_none : (t : List ℕ) (i : ℕ) → t ++ onward i [] ≡ t
-word_none t i = elim (cases_Bool (eqb i 0)) [ inl z ↦ rw (z, append-nil t) refl | inr z ↦ rw (z, append-nil t) refl ]
+  led_next : (xs : List X) → led (codes " ") xs ≡ flat_map (λ y. codes " " ++ word y) xs
+  led_next [] = refl
+  led_next (x ∷ xs) = refl
+
+  pub led_on : (done blank : List ℕ) (x : X) (xs : List X) {all : List ℕ} → done ++ led blank (x ∷ xs) ≡ all
+      → (done ++ (blank ++ word x)) ++ led (codes " ") xs ≡ all
+  led_on done blank x xs e = rw (led_next xs) (simp append_assoc e)
+
+  -- none is left
+  pub led_none : (done blank : List ℕ) (xs : List X) {all : List ℕ} → xs ≡ [] → done ++ led blank xs ≡ all → done ≡ all
+  led_none done blank xs none e = sym (append-nil done) ∙ (rw none at e)
+
+  pub led_end : {Y : Type 0} (done blank : List ℕ) (f : Y → X) (ys : List Y) (i : ℕ) {all : List ℕ} → length ys ≤ i → done ++ led blank (map f (drop i ys)) ≡ all → done ≡ all
+  led_end done blank f ys i end e = led_none done blank (map f (drop i ys)) (rw (drop_all i ys end) refl) e

@@ -1,5 +1,6 @@
 -- What a user is told, in words, byte by byte. This is what a reader must believe of the text.
-use Rattle.std.specs.Prelude.{ℕ, cond, List, [], ◌∷◌, ◌++◌, map, codes, decimal, ◌==◌}
+use Rattle.std.specs.Prelude.{ℕ, cond, List, ◌++◌, codes, decimal, ◌==◌, slice_index}
+use Rattle.std.specs.List.{join_by}
 use Rattle.rows.specs.declared.Row.{Row}
 use Rattle.policy.specs.Refusals.{refusal_line}
 use Rattle.policy.specs.declared.refusal.Refusal.{Refusal}
@@ -7,27 +8,21 @@ use Rattle.policy.specs.declared.refusal.Refusal.TheVariants.{OutOfBounds, BadVi
 use Rattle.query.specs.Answers.{Answer, lists, total, list, not_seen}
 use Rattle.model.specs.Model.{Response, done, refused, answered}
 
--- some words, each behind a blank
-abbrev pub spaced : List (List ℕ) → List ℕ
-spaced [] = []
-spaced (w ∷ ws) = codes " " ++ (w ++ spaced ws)
-
--- some words, with one blank between each two
-abbrev pub joined : List (List ℕ) → List ℕ
-joined [] = []
-joined (w ∷ ws) = w ++ spaced ws
-
 -- key and amount, as 5:70
 abbrev pub row_bytes : Row → List ℕ
 row_bytes row = decimal row.key ++ (codes ":" ++ decimal row.amount)
 
--- rows in brackets, as [5:70 6:80] or []
-abbrev pub list_bytes : List Row → List ℕ
-list_bytes rows = codes "[" ++ (joined (map row_bytes rows) ++ codes "]")
+-- a key and an amount as numbers
+abbrev pub pair : List ℕ → Row
+pair numbers = record { key = slice_index numbers 0; amount = slice_index numbers 1 }
 
--- a list for each compartment, and nothing where there is none; a total as 3 rows 160 or 1 row 10
+-- rows in brackets, with one blank between each two, as [5:70 6:80] or []
+abbrev pub list_bytes : List Row → List ℕ
+list_bytes rows = codes "[" ++ (join_by row_bytes (codes " ") rows ++ codes "]")
+
+-- a list for each compartment, with one blank between each two; a total as 3 rows 160 or 1 row 10
 abbrev pub answer_bytes : Answer → List ℕ
-answer_bytes (lists all) = joined (map list_bytes all)
+answer_bytes (lists all) = join_by list_bytes (codes " ") all
 answer_bytes (total rows amount) = cond (rows == 1) (codes "1 row " ++ decimal amount) (decimal rows ++ (codes " rows " ++ decimal amount))
 answer_bytes (list rows) = list_bytes rows
 answer_bytes not_seen = codes "not seen"

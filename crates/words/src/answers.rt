@@ -1,71 +1,50 @@
 // An answer in words, read out of the answer row.
-ghost use Rattle.std.specs.Prelude.{◌≡◌, ◌++◌, drop, string_bytes, codes, decimal, OnOk};
-ghost use Rattle.model.specs.Model.{answered as told};
-ghost use Rattle.query.specs.Answers.{total};
+ghost use Rattle.std.specs.Prelude.{◌≡◌, Some, map, drop};
 ghost use Rattle.query.specs.Numbers.{read_answer};
-ghost use Rattle.words.specs.Words.{answer_bytes, line};
+ghost use Rattle.rows.specs.Halving.{rows_of};
+ghost use Rattle.words.specs.Words.{pair, answer_bytes};
 
-use super::lists::{first_rows, push_list, push_lists};
-use query::{Answered, Outcome};
-use std::alloc::AllocError;
-use std::fmt::Write;
+use super::lists::{List, Lists};
+use query::Answered;
+use std::fmt;
 
-pub(crate) fn push_line(
-    text: &mut String,
-    user: usize,
-    outcome: Outcome,
-    row: &[u64],
-) -> Result<(), AllocError>
-    ensures { OnOk result (string_bytes text.new ≡ string_bytes text.old ++ line user (told (read_answer outcome.answered row.now) outcome.examined)) }
-{
-    let Outcome { answered, examined } = outcome;
-    push_user(text, user)?;
-    push_answer(text, answered, row)?;
-    push_examined(text, examined)
+// An answer, and the answer row in which its rows stand, if there are any.
+#[derive(Clone, Copy)]
+pub(crate) struct Answer<'a> {
+    pub(crate) answered: Answered,
+    pub(crate) row: &'a [u64],
 }
 
-fn push_user(text: &mut String, user: usize) -> Result<(), AllocError>
-    ensures { OnOk result (string_bytes text.new ≡ string_bytes text.old ++ (decimal user ++ codes ": ")) }
-{
-    write!(text, "{user}: ").or(Err(AllocError))
-}
+impl fmt::Display for Answer<'_> {
+    ghost output = { λ a. Some (answer_bytes (read_answer a.answered a.row.now)) };
 
-// How many rows were examined, and the end of the line.
-fn push_examined(text: &mut String, examined: usize) -> Result<(), AllocError>
-    ensures { OnOk result (string_bytes text.new ≡ string_bytes text.old ++ (codes " looked at " ++ (decimal examined ++ codes "\n"))) }
-{
-    writeln!(text, " looked at {examined}").or(Err(AllocError))
-}
-
-fn push_answer(text: &mut String, answered: Answered, row: &[u64]) -> Result<(), AllocError>
-    ensures { OnOk result (string_bytes text.new ≡ string_bytes text.old ++ answer_bytes (read_answer answered row.now)) }
-{
-    match answered {
-        Answered::Rows { compartments } => {
-            let counts = compartments.min(row.len());
-            push_lists(text, &row[..counts], behind_header(row))
+    fn fmt<W: fmt::Write>(&self, f: &mut fmt::Formatter<W>) -> fmt::Result {
+        let row = self.row;
+        match self.answered {
+            Answered::Rows { compartments } => {
+                let counts = &row[..compartments.min(row.len())];
+                let rows = behind_header(row);
+                write!(f, "{}", Lists { counts, rows })
+            }
+            // A single row is one row.
+            Answered::Total { rows: 1, amount } => write!(f, "1 row {amount}"),
+            Answered::Total { rows, amount } => write!(f, "{rows} rows {amount}"),
+            Answered::Shared { rows: count } => {
+                let rows = behind_header(row);
+                let rows = &rows[..count.min(rows.len())];
+                write!(f, "{}", List { rows })
+            }
+            Answered::NotSeen => write!(f, "not seen"),
         }
-        Answered::Total { rows, amount } => push_total(text, rows, amount),
-        Answered::Shared { rows } => push_list(text, first_rows(behind_header(row), rows)),
-        Answered::NotSeen => text.push_str("not seen"),
     }
 }
 
-// A single row is one row.
-fn push_total(text: &mut String, rows: usize, amount: u64) -> Result<(), AllocError>
-    ensures { OnOk result (string_bytes text.new ≡ string_bytes text.old ++ answer_bytes (total rows amount)) }
+// The rows behind the header, if there are any.
+fn behind_header(row: &[u64]) -> &[[u64; 2]]
+    ensures { map pair result.now ≡ rows_of (drop 32 row.now) }
 {
-    if rows == 1 {
-        write!(text, "1 row {amount}").or(Err(AllocError))
-    } else {
-        write!(text, "{rows} rows {amount}").or(Err(AllocError))
-    }
-}
-
-// The numbers behind the header, if there are any.
-fn behind_header(row: &[u64]) -> &[u64]
-    ensures { result.now ≡ drop 32 row.now }
-{
-    let start = row.len().min(32);
-    &row[start..]
+    let Some(numbers) = row.get(32..) else {
+        return &[];
+    };
+    numbers.as_chunks::<2>().0
 }

@@ -12,6 +12,7 @@ mod reasons;
 #[cfg(test)]
 mod tests;
 
+use answers::Answer;
 use policy::Refusal;
 use query::Outcome;
 use reasons::Reason;
@@ -25,7 +26,7 @@ pub fn push_done_line(text: &mut String, user: usize) -> Result<(), AllocError>
     ensures { OnOk result (string_bytes text.new ≡ string_bytes text.old ++ line user done) }
 {
     let words = "done";
-    writeln!(text, "{user}: {words}").or(Err(AllocError))
+    writeln!(text, "{user}: {words}")
 }
 
 // The request is refused.
@@ -33,7 +34,7 @@ pub fn push_refused_line(text: &mut String, user: usize, refusal: Refusal) -> Re
     ensures { OnOk result (string_bytes text.new ≡ string_bytes text.old ++ line user (refused refusal)) }
 {
     let reason = Reason { refusal };
-    writeln!(text, "{user}: {reason}").or(Err(AllocError))
+    writeln!(text, "{user}: {reason}")
 }
 
 // The query is answered, and its rows, if there are any, stand in the answer row.
@@ -45,5 +46,7 @@ pub fn push_answered_line(
 ) -> Result<(), AllocError>
     ensures { OnOk result (string_bytes text.new ≡ string_bytes text.old ++ line user (answered (read_answer outcome.answered row.now) outcome.examined)) }
 {
-    answers::push_line(text, user, outcome, row)
+    let Outcome { answered, examined } = outcome;
+    let answer = Answer { answered, row };
+    writeln!(text, "{user}: {answer} looked at {examined}")
 }

@@ -8,9 +8,9 @@ const POLICY: &str =
 
 // What is told of a text.
 fn told(heap: Global, text: &str) -> Result<String, AllocError> {
-    match notation::read(heap, text.as_bytes())? {
+    match notation::read(heap, text.as_bytes()) {
         Ok(_) => String::from_str(heap, "read"),
-        Err(fault) => format!(in heap; "{fault}"),
+        Err(error) => format!(in heap; "{error}"),
     }
 }
 
@@ -35,7 +35,7 @@ fn tells_request(heap: Global, line: &str, words: &str) -> Result<bool, AllocErr
 fn writes_bytes(rt: HostRuntime) -> Result<(), Fail> {
     let text =
         "# one user\n\nusers 1\n compartments\t1\r\nuser 0 sees 0 writes 0\ncapacity 0 3\n31 delete 258\n0 total 1 4294967295";
-    let Ok(trace) = notation::read(rt.alloc(), text.as_bytes())? else {
+    let Ok(trace) = notation::read(rt.alloc(), text.as_bytes()) else {
         assert!(rt; false);
         return Ok(());
     };

@@ -1,10 +1,15 @@
--- A turn reads one place.
-use Rattle.std.proofs.Common.{sym, ◌∙◌}
-use Rattle.cache.proofs.Numbers.{hit, miss}
+-- The first of the whole places that keeps something.
+use Rattle.std.proofs.Common.{◌/◌, length, ap, ◌∙◌, rules}
+use Rattle.std.specs.Slice.Iter.{iter_rest}
+use Rattle.cache.specs.Places.{kept_in}
+use Rattle.cache.proofs.FirstFound.{first_found, found_is}
+use Rattle.cache.proofs.Numbers.{found_in_chunks}
 use Rattle.cache.proofs.newest.Goals as goal
 
-pub returns-then-is_some : goal.returns-then-is_some
-returns-then-is_some c = sym (hit _ _ _ _ _ c.loop-i-test.true c.read_place-kept.ensures c.if-is_some.ensures) ∙ c.loop-i.invariant
-
-pub loop-i-preserved : goal.loop-i-preserved
-loop-i-preserved c = sym (miss _ _ _ _ _ c.loop-i-test.true c.read_place-kept.ensures c.if-is_some.ensures) ∙ c.loop-i.invariant
+pub returns : goal.returns
+returns c =
+    let key = c.args.key.now in
+    let xs = c.args.places.now in
+    found_is _ _ (kept_in key) (λ x o q k. search rules) _ _ iter_rest _ c.iter.ensures.rest c.iter.ensures.runs c.find_map.ensures.runs
+    ∙ ap (first_found (kept_in key)) c.as_chunks.ensures.front
+    ∙ found_in_chunks (length xs / 24) key xs

@@ -1,24 +1,29 @@
 // Whether a user's contract may stand.
 ghost use Rattle.std.specs.Prelude.{◌≡◌};
-ghost use Rattle.policy.specs.Views.{distinct_below, valid};
+ghost use Rattle.policy.specs.Views.{distinct_below, stands, valid};
 
 use super::Contract;
-use super::views::contains;
 
 impl Contract {
-    // Nothing twice, nothing that isn't there, and the compartment written in among them.
     pub(crate) fn is_valid(&self, compartments: u64) -> bool
         ensures { result ≡ valid compartments self.now }
     {
-        distinct(self.view(), compartments) && self.sees(self.writes)
+        is_view(self.view(), compartments, self.writes)
     }
 }
 
-fn distinct(view: &[u64], compartments: u64) -> bool
+// Nothing twice, nothing that isn't there, and the compartment written in among them.
+pub fn is_view(view: &[u64], compartments: u64, writes: u64) -> bool
+    ensures { result ≡ stands compartments view.now writes }
+{
+    is_distinct(view, compartments) && view.contains(&writes)
+}
+
+fn is_distinct(view: &[u64], compartments: u64) -> bool
     ensures { result ≡ distinct_below compartments view.now }
 {
-    for i in 0..view.len() {
-        if view[i] >= compartments || contains(&view[i + 1..], view[i]) {
+    for (i, compartment) in view.iter().enumerate() {
+        if *compartment >= compartments || view[i + 1..].contains(compartment) {
             return false;
         }
     }

@@ -4,13 +4,13 @@ ghost use Rattle.policy.specs.Numbers.{user_at};
 ghost use Rattle.policy.specs.Read.{Says, Say};
 
 use super::Contract;
+use crate::ArrayList;
 
 impl Contract {
     // Sees nothing.
     fn nobody() -> Contract {
         Contract {
-            places: [0; 16],
-            seen: 0,
+            view: ArrayList::new(0),
             writes: 0,
         }
     }
@@ -23,11 +23,9 @@ impl Contract {
     {
         let at = 2 + 18 * user;
         let seen = numbers[at] as usize;
-        let mut places = [0; 16];
-        places[0..seen].copy_from_slice(&numbers[at + 1..at + 1 + seen]);
+        let view = ArrayList::of(&numbers[at + 1..at + 1 + seen], 0).unwrap();
         Contract {
-            places,
-            seen,
+            view,
             writes: numbers[at + 17],
         }
     }

@@ -11,7 +11,7 @@ impl Contract {
         ensures value { result.now ≡ view_of self.now }
         ensures few { length result.now ≤ 16 }
     {
-        &self.places[0..self.seen]
+        self.view.as_slice()
     }
 
     // The compartment in which the user writes.
@@ -24,17 +24,6 @@ impl Contract {
     pub fn sees(&self, compartment: u64) -> bool
         ensures { result ≡ has (view_of self.now) compartment }
     {
-        contains(self.view(), compartment)
+        self.view().contains(&compartment)
     }
-}
-
-pub(crate) fn contains(view: &[u64], compartment: u64) -> bool
-    ensures { result ≡ has view.now compartment }
-{
-    for seen in view {
-        if *seen == compartment {
-            return true;
-        }
-    }
-    false
 }

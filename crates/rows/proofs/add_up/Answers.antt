@@ -1,18 +1,23 @@
 -- A turn takes one row from those left.
-use Rattle.std.proofs.Common.{◌≡◌, ◌+◌, ◌*◌, get_or, drop, ap, arith}
+use Rattle.std.proofs.Common.{[], map, ap, arith}
+use Rattle.std.proofs.lemmas.List.{drop_more, drop_all}
 use Rattle.rows.specs.Rows.{sum}
-use Rattle.rows.specs.Halving.{rows_of}
-use Rattle.rows.proofs.Memory.{rows_more, rows_none}
+use Rattle.rows.specs.Halving.{pair_row}
 use Rattle.rows.proofs.add_up.Goals as goal
 
-pub loop-i-preserved : goal.loop-i-preserved
-loop-i-preserved c =
-    let xs = c.args.rows.now in
-    let e : sum (rows_of (drop (2 * c.loop-i.i) xs)) ≡ get_or xs (2 * c.loop-i.i + 1) 0 + sum (rows_of (drop (2 * (c.loop-i.i + 1)) xs)) =
-    ap sum (rows_more xs c.loop-i.i (omega arith)) in
-    (omega arith, omega arith)
+pub loop-amount-init : goal.loop-amount-init
+loop-amount-init c =
+    let e = ap sum c.pairs-amount-items.ensures in
+    omega arith
+
+pub loop-amount-preserved : goal.loop-amount-preserved
+loop-amount-preserved c =
+    let i = c.loop-amount.amount-index in
+    let xs = c.pairs-amount-items.result.now in
+    let e = ap (λ l. sum (map pair_row l)) (drop_more xs i [] (omega arith)) in
+    omega arith
 
 pub returns : goal.returns
 returns c =
-    let e : sum (rows_of (drop (2 * c.loop-i.i) c.args.rows.now)) ≡ 0 = ap sum (rows_none c.args.rows.now c.loop-i.i (omega arith)) in
+    let e = ap (λ l. sum (map pair_row l)) (drop_all c.loop-amount.amount-index c.pairs-amount-items.result.now (omega arith)) in
     omega arith

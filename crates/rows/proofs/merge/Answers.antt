@@ -1,19 +1,30 @@
--- A turn passes one row of the first part, written or not.
-use Rattle.std.proofs.Common.{sym, arith}
-use Rattle.rows.proofs.Passes.{passed_one, passed_none, passed_all}
+-- A turn writes one of the rows that are still to come.
+use Rattle.std.proofs.Common.{refl, ap, ◌∙◌, arith}
+use Rattle.rows.specs.Passes.{shared_rows}
+use Rattle.rows.proofs.Passes.{length_shared, still_room, passed_one, passed_all}
 use Rattle.rows.proofs.merge.Goals as goal
-use Rattle.rows.proofs.merge.Goals.{then-stands_at, else-stands_at}
 
-pub loop-i-preserved : goal.loop-i-preserved
-loop-i-preserved c =
-    elim c.if-stands_at.branch [
-      | then-stands_at w ↦
-          rw (w.written-is, w.out-is)
-          (passed_one _ _ _ _ _ _ _ c.loop-i.invariant _ (omega arith) c.skip-next.ensures.within c.skip-next.ensures.value (omega arith) (sym w.if-stands_at.ensures))
-      | else-stands_at w ↦
-          rw (w.written-is, w.out-is)
-          (passed_none _ _ _ _ _ _ _ c.loop-i.invariant _ (omega arith) c.skip-next.ensures.within c.skip-next.ensures.value (sym w.if-stands_at.ensures))
-    ]
+pub loop-row-init : goal.loop-row-init
+loop-row-init c =
+    let e = ap shared_rows c.into_iter-row-iterator.ensures.into_iter_gives ∙ c.new-row-items.ensures in
+    (tt, tt, rw e (record { count = omega arith; front = refl; behind = refl }))
+
+pub set_row-requires : goal.set_row-requires
+set_row-requires c =
+    let n = still_room _ _ _ _ _ _ (rw c.in-Some.ensures.steps at c.loop-row.invariant.2) in
+    omega (arith, length_shared c.args.a.now c.args.b.now)
+
+pub overflow_add-written : goal.overflow_add-written
+overflow_add-written c =
+    let n = still_room _ _ _ _ _ _ (rw c.in-Some.ensures.steps at c.loop-row.invariant.2) in
+    omega (arith, length_shared c.args.a.now c.args.b.now)
+
+pub loop-row-preserved : goal.loop-row-preserved
+loop-row-preserved c =
+    let so = rw c.in-Some.ensures.steps at c.loop-row.invariant.2 in
+    (tt, tt, rw c.set_row.ensures (passed_one _ _ _ _ _ _ so (omega (arith, length_shared c.args.a.now c.args.b.now))))
 
 pub returns : goal.returns
-returns c = let d = passed_all _ _ _ _ _ _ _ c.loop-i.invariant (omega arith) in record { told = d.0; after = d.1; within = omega arith }
+returns c =
+    let d = passed_all _ _ _ _ (rw c.in-None.ensures.steps.0 at c.loop-row.invariant.2) in
+    record { told = d.0; after = d.1; within = omega (arith, d.0, length_shared c.args.a.now c.args.b.now) }

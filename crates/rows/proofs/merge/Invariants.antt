@@ -1,6 +1,12 @@
--- Where the pass stands in both parts, and what it has written.
+-- Where the pass stands, and what it has written.
+use Rattle.rows.specs.Halving.{rows_of}
+use Rattle.rows.specs.Numbers.{merged}
+use Rattle.rows.specs.Passes.{shared_rows}
 use Rattle.rows.proofs.Passes.{Passed}
 use Rattle.rows.proofs.merge.Given as goal
 
-abbrev pub invariant-loop-i : goal.invariant-loop-i
-invariant-loop-i l = Passed l.a l.b l.initial.out l.i l.next l.written l.out
+abbrev pub invariant-loop-row : goal.invariant-loop-row
+invariant-loop-row l =
+    (goal.iterator-loop-row).can_next l.row-iterator
+    × (goal.iterator-loop-row).is_finite l.row-iterator
+    × Passed (merged (rows_of l.a) (rows_of l.b)) (shared_rows l.row-iterator) l.initial.out l.written l.out

@@ -1,18 +1,29 @@
-use Rattle.std.proofs.Common.{◌≡◌, ℕ, List, [], ◌∷◌, ◌++◌, vec_items, sym, append-nil}
+use Rattle.std.proofs.Common.{◌≡◌, ℕ, List, [], ◌∷◌, ◌++◌, ◌-◌, length, take, drop, replicate, vec_items, sym, ap, ◌∙◌, append-nil, arith}
+use Rattle.std.proofs.lemmas.List.{drop-replicate, length-replicate, take_all}
+use Rattle.notation.specs.Said.{padded}
 use Rattle.notation.proofs.Pushes.{said_same, pushed_twice}
 use Rattle.notation.proofs.reading.add_contract.Goals as goal
+
+-- what lies behind a view is 0
+behind : (n : ℕ) → take {A = ℕ} (16 - n) (drop n (replicate 16 0)) ≡ replicate (16 - n) 0
+behind n = rw (drop-replicate {X = ℕ} n 16 0) (take_all (16 - n) (replicate (16 - n) 0) (omega (arith, length-replicate {A = ℕ} (16 - n) 0)))
 
 pub returns : goal.returns
 returns c =
     let ns : List ℕ = vec_items c.args.trace.now.numbers in
     let one : List ℕ = vec_items c.push.new.self in
     let two : List ℕ = vec_items c.extend_from_slice.new.self in
-    let three : List ℕ = vec_items c.push-2.new.self in
-    let contract = c.args.contract in
-    let view : List ℕ = contract.view.places in
-    let first : one ≡ ns ++ contract.view.seen ∷ [] = c.in_ok-push.ensures.items in
-    let second : two ≡ one ++ view = c.in_ok-extend_from_slice.ensures.items in
-    let third : three ≡ two ++ contract.writes ∷ [] = c.in_ok-push-2.ensures.items in
-    said_same three _ (vec_items c.args.trace.now.requests) _
-    (pushed_twice ns one three (contract.view.seen ∷ []) (view ++ contract.writes ∷ []) first (pushed_twice one two three view (contract.writes ∷ []) second third))
+    let three : List ℕ = vec_items c.extend_from_slice-2.new.self in
+    let four : List ℕ = vec_items c.push-2.new.self in
+    let view : List ℕ = c.args.contract.view.items in
+    let writes : List ℕ = c.args.contract.writes ∷ [] in
+    let zeros : List ℕ = replicate (16 - length view) 0 in
+    let is = c.as_slice-view.ensures.value in
+    let first : one ≡ ns ++ length view ∷ [] = c.in_ok-push.ensures.items ∙ ap (λ (v : List ℕ). ns ++ length v ∷ []) is in
+    let second : two ≡ one ++ view = c.in_ok-extend_from_slice.ensures.items ∙ ap (λ (v : List ℕ). one ++ v) is in
+    let third : three ≡ two ++ zeros =
+    c.in_ok-extend_from_slice-2.ensures.items ∙ ap (λ (v : List ℕ). two ++ v) (behind (length c.as_slice-view.result.now) ∙ ap (λ (v : List ℕ). replicate (16 - length v) 0) is) in
+    let padded_view = pushed_twice one two three view zeros second third in
+    said_same four _ (vec_items c.args.trace.now.requests) _
+    (pushed_twice ns one four (length view ∷ []) (padded view ++ writes) first (pushed_twice one three four (padded view) writes padded_view c.in_ok-push-2.ensures.items))
     (sym (append-nil (vec_items c.args.trace.now.requests)))

@@ -1,32 +1,45 @@
-use Rattle.std.proofs.Common.{Option, Result, ap, ◌∙◌, arith}
-use Rattle.notation.specs.Said.{Said, said_of, unless, at_line}
-use Rattle.notation.specs.declared.fault.Fault.{Fault}
-use Rattle.notation.specs.declared.fault.Reason.{Reason}
-use Rattle.notation.proofs.Turns.{unless_at, turn_within, turn_refused, turn_last, turn_next}
+use Rattle.std.proofs.Common.{◌==◌, length, length-append, rules, tests, ◌∙◌, arith}
+use Rattle.std.proofs.lemmas.Iterator.Consumers.{YieldsList-from_enumerate, YieldsList-at, YieldsList-turn, YieldsList-end}
+use Rattle.std.proofs.lemmas.Iterator.Splits.{YieldsList-from_slice_split}
+use Rattle.std.proofs.lemmas.Result.{err_from_is_err_and}
+use Rattle.notation.specs.Said.{said_of}
+use Rattle.notation.specs.Words.{lines}
+use Rattle.notation.proofs.Turns.{place_is, line_read, line_refused, said_all}
 use Rattle.notation.proofs.reading.read_lines.Goals as goal
 
-pub returns-in-Some : goal.returns-in-Some
-returns-in-Some c =
-    let l = c.loop-reason in
-    turn_refused l.line (said_of l.trace) (said_of c.read_line.new.trace) c.args.text.now l.at c.stretch.result l.invariant.0 c.stretch.ensures.value c.in_ok-reason.field-0 c.in_ok-reason.ensures c.in-Some.reason c.in-Some.is
-    ∙ l.invariant.2
+pub loop-i-preserved : goal.loop-i-preserved
+loop-i-preserved c =
+    let turn = YieldsList-turn
+    (YieldsList-at c.into_iter-i-iterator.ensures.into_iter_gives (YieldsList-from_enumerate (YieldsList-at c.enumerate-i-items.ensures.source (YieldsList-from_slice_split _ (λ byte. byte == 10) c.args.text.now c.split.ensures.rest c.split.ensures.done c.split.ensures.closure (λ x b q k. search (rules, tests)))) c.enumerate-i-items.ensures.count))
+    c.loop-i.yielded c.loop-i.i-iterator c.loop-i.yielded_by c.next.result c.next.new.self (c.in-Some.i, c.in-Some.bytes) c.in-Some.is c.next.ensures.steps in
+    let i = place_is (lines c.args.text.now) (length c.loop-i.yielded) c.loop-i.last c.in-Some.i c.in-Some.bytes.now c.loop-i.invariant.counted turn in
+    record {
+      counted = simp length-append (omega (arith, c.loop-i.invariant.counted));
+      whole = line_read (lines c.args.text.now) (length c.loop-i.yielded) c.loop-i.last c.in-Some.i c.in-Some.bytes.now c.loop-i.invariant.counted turn (said_of c.loop-i.trace) (said_of c.read_line.new.trace) c.in_ok-read_line.ensures ∙ c.loop-i.invariant.whole;
+    }
 
-pub returns-then-end-text : goal.returns-then-end-text
-returns-then-end-text c =
-    let l = c.loop-reason in
-    let said = said_of c.read_line.new.trace in
-    ap (λ (w : Option Fault). unless w said) c.at_line.ensures
-    ∙ unless_at l.line c.unfinished.result said
-    ∙ ap (λ (r : Result Said Reason). at_line l.line r) c.unfinished.ensures
-    ∙ turn_last l.line (said_of l.trace) said c.args.text.now l.at c.stretch.result l.invariant.0 c.stretch.ensures.value c.in_ok-reason.field-0 c.in_ok-reason.ensures c.in_default.is c.if-end-text.true
-    ∙ l.invariant.2
+pub returns-in_err-read_line : goal.returns-in_err-read_line
+returns-in_err-read_line c =
+    let turn = YieldsList-turn
+    (YieldsList-at c.into_iter-i-iterator.ensures.into_iter_gives (YieldsList-from_enumerate (YieldsList-at c.enumerate-i-items.ensures.source (YieldsList-from_slice_split _ (λ byte. byte == 10) c.args.text.now c.split.ensures.rest c.split.ensures.done c.split.ensures.closure (λ x b q k. search (rules, tests)))) c.enumerate-i-items.ensures.count))
+    c.loop-i.yielded c.loop-i.i-iterator c.loop-i.yielded_by c.next.result c.next.new.self (c.in-Some.i, c.in-Some.bytes) c.in-Some.is c.next.ensures.steps in
+    let p = err_from_is_err_and c.from_residual.result c.from_residual.ensures.1 in
+    rw (p.1, p.2)
+    (line_refused (lines c.args.text.now) (length c.loop-i.yielded) c.loop-i.last c.in-Some.i c.in-Some.bytes.now c.loop-i.invariant.counted turn c.in_err-read_line.field-0.0 (said_of c.loop-i.trace) _ c.in_err-read_line.ensures c.loop-i.invariant.whole)
 
-pub loop-reason-preserved : goal.loop-reason-preserved
-loop-reason-preserved c =
-    let l = c.loop-reason in
-    let w = turn_within l.line (said_of l.trace) (said_of c.read_line.new.trace) c.args.text.now l.at c.stretch.result l.invariant.0 c.stretch.ensures.value c.in_ok-reason.field-0 c.in_ok-reason.ensures in (
-      omega (arith, w, c.if-end-text.false),
-      omega (arith, l.invariant.1),
-      turn_next l.line (said_of l.trace) (said_of c.read_line.new.trace) c.args.text.now l.at c.stretch.result l.invariant.0 c.stretch.ensures.value c.in_ok-reason.field-0 c.in_ok-reason.ensures c.in_default.is c.if-end-text.false
-          ∙ l.invariant.2,
-    )
+pub returns-in_err-whole : goal.returns-in_err-whole
+returns-in_err-whole c =
+    let end = YieldsList-end
+    (YieldsList-at c.into_iter-i-iterator.ensures.into_iter_gives (YieldsList-from_enumerate (YieldsList-at c.enumerate-i-items.ensures.source (YieldsList-from_slice_split _ (λ byte. byte == 10) c.args.text.now c.split.ensures.rest c.split.ensures.done c.split.ensures.closure (λ x b q k. search (rules, tests)))) c.enumerate-i-items.ensures.count))
+    c.loop-i.yielded c.loop-i.i-iterator c.loop-i.yielded_by c.next.result c.next.new.self c.in-None.is c.next.ensures.steps in
+    let p = err_from_is_err_and c.from_residual-in_err-whole.result c.from_residual-in_err-whole.ensures.1 in
+    let all = said_all (lines c.args.text.now) (length c.loop-i.yielded) c.loop-i.last (said_of c.loop-i.trace) c.loop-i.invariant.counted end.1 in
+    rw (p.1, p.2) (c.in_err-whole.ensures ∙ all ∙ c.loop-i.invariant.whole)
+
+pub returns : goal.returns
+returns c =
+    let end = YieldsList-end
+    (YieldsList-at c.into_iter-i-iterator.ensures.into_iter_gives (YieldsList-from_enumerate (YieldsList-at c.enumerate-i-items.ensures.source (YieldsList-from_slice_split _ (λ byte. byte == 10) c.args.text.now c.split.ensures.rest c.split.ensures.done c.split.ensures.closure (λ x b q k. search (rules, tests)))) c.enumerate-i-items.ensures.count))
+    c.loop-i.yielded c.loop-i.i-iterator c.loop-i.yielded_by c.next.result c.next.new.self c.in-None.is c.next.ensures.steps in
+    let all = said_all (lines c.args.text.now) (length c.loop-i.yielded) c.loop-i.last (said_of c.loop-i.trace) c.loop-i.invariant.counted end.1 in
+    c.in_ok-whole.ensures ∙ all ∙ c.loop-i.invariant.whole

@@ -1,27 +1,22 @@
-use Rattle.std.proofs.Common.{◌+◌, true, false, sym, arith}
+use Rattle.std.proofs.Common.{sym, ◌∙◌, arith}
 use Rattle.std.proofs.lemmas.Result.{err_from_is_err_and}
-use Rattle.notation.proofs.Viewing.{compared, viewed_none, viewed_full, viewed_done, viewed_err, viewed_more}
+use Rattle.notation.proofs.Viewing.{viewed_none, viewed_full, viewed_done, viewed_err, viewed_more}
 use Rattle.notation.proofs.users.view_in.Goals as goal
 
-pub loop-i-init : goal.loop-i-init
-loop-i-init c = viewed_none c.args.line.now
+pub loop-place-init : goal.loop-place-init
+loop-place-init c = viewed_none c.args.line.bytes.now c.new-view.result.items c.new-view.ensures
 
-pub returns-then-is_named : goal.returns-then-is_named
-returns-then-is_named c =
-    let test = compared c.args.line.now c.word_at.result.now (3 + c.loop-i.i) true c.word_at.ensures c.if-is_named.ensures in
-    record { value = viewed_done _ _ _ c.loop-i.invariant c.loop-i-test.true test; few = omega arith }
+pub returns-then-is_named-clause-value : goal.returns-then-is_named-clause-value
+returns-then-is_named-clause-value c = viewed_done _ _ _ c.loop-place.invariant c.loop-place-test.true (sym c.if-is_named.ensures)
 
-pub returns-in_err-places : goal.returns-in_err-places
-returns-in_err-places c =
-    let test = compared c.args.line.now c.word_at.result.now (3 + c.loop-i.i) false c.word_at.ensures c.if-is_named.ensures in
+pub returns-in_err-number-clause-value : goal.returns-in_err-number-clause-value
+returns-in_err-number-clause-value c =
     let p = err_from_is_err_and c.from_residual.result c.from_residual.ensures.1 in
-    rw (p.1, p.2)
-    (record { value = viewed_err _ _ _ c.loop-i.invariant c.loop-i-test.true test _ (sym c.in_err-places.ensures); few = tt })
+    rw (p.1, p.2) (viewed_err _ _ _ c.loop-place.invariant c.loop-place-test.true (sym c.if-is_named.ensures) _ (sym c.in_err-number.ensures))
 
-pub loop-i-preserved : goal.loop-i-preserved
-loop-i-preserved c =
-    let test = compared c.args.line.now c.word_at.result.now (3 + c.loop-i.i) false c.word_at.ensures c.if-is_named.ensures in
-    viewed_more _ _ _ c.loop-i.invariant c.loop-i-test.true test _ (sym c.in_ok-places.ensures)
+pub loop-place-preserved : goal.loop-place-preserved
+loop-place-preserved c =
+    viewed_more _ _ _ c.loop-place.invariant c.loop-place-test.true (sym c.if-is_named.ensures) _ c.push.new.self.items (sym c.in_ok-number.ensures) c.push.ensures.list
 
-pub returns : goal.returns
-returns c = record { value = viewed_full _ _ _ c.loop-i.invariant (omega (arith, c.loop-i.auto.i-end)); few = omega arith }
+pub returns-clause-value : goal.returns-clause-value
+returns-clause-value c = viewed_full _ _ _ c.loop-place.invariant (omega (arith, c.loop-place.auto.place-end))

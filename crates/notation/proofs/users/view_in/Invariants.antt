@@ -1,5 +1,5 @@
 use Rattle.notation.proofs.Viewing.{Viewed}
 use Rattle.notation.proofs.users.view_in.Given as goal
 
-abbrev pub invariant-loop-i : goal.invariant-loop-i
-invariant-loop-i l = Viewed l.line l.places l.i
+abbrev pub invariant-loop-place : goal.invariant-loop-place
+invariant-loop-place l = Viewed l.line.bytes.now l.view.items l.place

@@ -1,4 +1,39 @@
+use Rattle.std.proofs.Common.{◌≡◌, ◌<◌, string_bytes, length, ap, ◌∙◌, arith, append_assoc}
+use Rattle.std.proofs.lemmas.Grind.{common_steps}
+use Rattle.policy.specs.Access.{rules_of}
+use Rattle.overview.specs.Shown.{shows_flow}
+use Rattle.overview.proofs.Listing.{passed_more, failed_more}
+use Rattle.overview.proofs.There.{compartments_counted, shown, may_not, hidden}
 use Rattle.overview.proofs.compartments.push_compartment.Goals as goal
+use Rattle.overview.proofs.compartments.push_compartment.Goals.{then-shows+then-may_flow+in_ok-push_flow, else-shows, else-shows-via-then-shows+else-may_flow, else-shows-via-else-shows}
 
-pub returns-in-Graph : goal.returns-in-Graph
-returns-in-Graph c = rw c.in-Graph.is c.push_compartment_edges.ensures
+pub loop-to-preserved : goal.loop-to-preserved
+loop-to-preserved g c =
+    let shape = g.F.Form.shape in
+    let p = c.args.policy.now in
+    let from = c.args.from in
+    let to = c.loop-to.to in
+    let n : length c.capacities-to-end.result.now ≡ p.compartments = rw c.capacities-to-end.ensures (compartments_counted p) in
+    let there : to < p.compartments = omega arith in
+    let t = string_bytes c.push_compartment.new.text in
+    elim c.if-shows.branch [
+      | then-shows+then-may_flow+in_ok-push_flow w ↦
+          passed_more (shape.flow from) t to (shows_flow shape (rules_of p) from) c.loop-to.invariant
+          (shown shape p from to c.requires there c.shows.ensures w.may_flow.ensures w.if-shows.true w.if-may_flow.true)
+          (ap string_bytes w.text-is ∙ w.in_ok-push_flow.ensures)
+      | else-shows w ↦
+          failed_more (shape.flow from) t to (shows_flow shape (rules_of p) from) c.loop-to.invariant
+          (elim w.else-shows.branch [
+            | else-shows-via-then-shows+else-may_flow v ↦ may_not shape p from to c.requires there c.shows.ensures v.may_flow.ensures v.if-may_flow.false
+            | else-shows-via-else-shows v ↦ hidden shape p from to c.requires there c.shows.ensures v.if-shows.false
+          ])
+          (ap string_bytes w.text-is)
+    ]
+
+pub returns : goal.returns
+returns g c =
+    let p = c.args.policy.now in
+    let n : length c.capacities-to-end.result.now ≡ p.compartments = rw c.capacities-to-end.ensures (compartments_counted p) in
+    let all : c.loop-to.to ≡ p.compartments = omega arith in
+    let shown = rw all at c.loop-to.invariant in
+    grind (arith, common_steps, append_assoc)

@@ -1,18 +1,22 @@
-use Rattle.std.proofs.Common.{ℕ, List, ◌++◌, string_bytes, ap, ◌∙◌, arith}
+use Rattle.std.proofs.Common.{◌≡◌, string_bytes, length, arith}
 use Rattle.policy.specs.Access.{rules_of}
 use Rattle.overview.specs.Shown.{user_of}
-use Rattle.overview.proofs.Joining.{count_on}
-use Rattle.overview.proofs.Parts.{user_there}
+use Rattle.overview.proofs.Listing.{listed_more}
+use Rattle.overview.proofs.There.{user_there, users_counted}
 use Rattle.overview.proofs.users.push_users.Goals as goal
 
-pub loop-contract-preserved : goal.loop-contract-preserved
-loop-contract-preserved c =
-    let l = c.loop-contract in
+pub loop-user-preserved : goal.loop-user-preserved
+loop-user-preserved g c =
+    let l = c.loop-user in
     let p = c.args.policy.now in
-    let form = c.args.form in
-    let is = user_there p l.user c.in-Some.contract.now c.in-Some.ensures in
-    let pushed = rw (c.view.ensures.value, c.writes.ensures) at c.in_ok-push_user.ensures in (
-      omega (arith, is.0),
-      count_on (user_of form (rules_of p)) (string_bytes l.text) p.users l.user l.invariant.1 is.0
-          (pushed ∙ ap (λ (x : List ℕ). string_bytes l.text ++ x) (is.1 form)),
-    )
+    let shape = g.F.Form.shape in
+    let all = c.contracts-contract-items.ensures in
+    listed_more (user_of shape (rules_of p)) (string_bytes c.args.text.now) l.user l.invariant
+    (rw (user_there shape p l.user c.contract-item.result (rw all at c.loop-user-test.true) (rw all at c.contract-item.is)) at c.in_ok-push_user.ensures)
+
+pub returns : goal.returns
+returns g c =
+    let p = c.args.policy.now in
+    let n : length c.contracts-contract-items.result.now ≡ p.users = rw c.contracts-contract-items.ensures (users_counted p) in
+    let all : c.loop-user.user ≡ p.users = omega arith in
+    rw all at c.loop-user.invariant

@@ -3,4 +3,4 @@ use Rattle.wire.proofs.Filling.{Filled}
 use Rattle.wire.proofs.numbers.fill.Given as goal
 
 abbrev pub invariant-loop-place : goal.invariant-loop-place
-invariant-loop-place l = Filled l.width l.bytes l.initial.numbers l.numbers l.place l.at
+invariant-loop-place l = Filled l.width l.bytes l.initial.numbers l.numbers l.rest l.place

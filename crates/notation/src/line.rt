@@ -1,0 +1,131 @@
+// A line of a text: its words, and what stands at their places.
+ghost use Rattle.std.specs.Prelude.{◌≡◌, ◌≤◌, IfOk};
+ghost use Rattle.std.specs.Str.{bytes_eq};
+ghost use Rattle.notation.specs.Lines.{ends, named, next_at, number_at, silent, verb_at, within};
+ghost use Rattle.notation.specs.Names.{spelled};
+ghost use Rattle.notation.specs.Words.{blank, number_of, word_at};
+
+use crate::fault::Reason;
+use crate::names::{Name, Verb};
+
+// Any larger number counts as this one, which is out of all bounds.
+const TOO_LARGE: u64 = 0x1_0000_0000;
+
+// Spaces, tabs and carriage returns.
+fn is_blank(byte: u8) -> bool
+    ensures { result ≡ blank byte }
+{
+    matches!(byte, b' ' | b'\t' | b'\r')
+}
+
+// The decimal number that a word is.
+fn number_of(word: &[u8]) -> Option<u64>
+    ensures { result ≡ number_of word.now }
+{
+    if word.is_empty() {
+        return None;
+    }
+    let mut number: u64 = 0;
+    for byte in word {
+        if !byte.is_ascii_digit() {
+            return None;
+        }
+        number = (10 * number + u64::from(*byte - b'0')).min(TOO_LARGE);
+    }
+    Some(number)
+}
+
+// A line's bytes. Its words count from 0; where none stands, the word is empty.
+#[derive(Clone, Copy)]
+pub(crate) struct Line<'a> {
+    pub(crate) bytes: &'a [u8],
+}
+
+impl<'a> Line<'a> {
+    fn word(self, place: u8) -> &'a [u8]
+        ensures { result.now ≡ word_at self.entry.bytes.now place }
+    {
+        self.bytes
+            .split(|byte| is_blank(*byte))
+            .filter(|word| !word.is_empty())
+            .nth(usize::from(place))
+            .unwrap_or(&[])
+    }
+
+    // A blank line, or a remark.
+    pub(crate) fn is_silent(self) -> bool
+        ensures { result ≡ silent self.entry.bytes.now }
+    {
+        let word = self.word(0);
+        word.is_empty() || word[0] == b'#'
+    }
+
+    pub(crate) fn is_named(self, place: u8, name: Name) -> bool
+        ensures { result ≡ bytes_eq (word_at self.entry.bytes.now place) (spelled name) }
+    {
+        self.word(place) == name.spelling().as_bytes()
+    }
+
+    pub(crate) fn named(self, place: u8, name: Name) -> Result<(), Reason>
+        ensures { result ≡ named name self.entry.bytes.now place }
+    {
+        if self.is_named(place, name) {
+            Ok(())
+        } else {
+            Err(Reason::Expected { name })
+        }
+    }
+
+    pub(crate) fn verb(self, place: u8) -> Result<Verb, Reason>
+        ensures { result ≡ verb_at self.entry.bytes.now place }
+    {
+        Verb::try_from(self.word(place))
+    }
+
+    pub(crate) fn number(self, place: u8) -> Result<u64, Reason>
+        ensures { result ≡ number_at self.entry.bytes.now place }
+    {
+        number_of(self.word(place)).ok_or(Reason::NoNumber {
+            word: usize::from(place) + 1,
+        })
+    }
+
+    // The number there, if it lies within its bounds.
+    pub(crate) fn within(self, place: u8, low: u64, high: u64) -> Result<u64, Reason>
+        ensures value { result ≡ within low high self.entry.bytes.now place }
+        ensures bounds { IfOk result (λ n. (low ≤ n) × (n ≤ high)) }
+    {
+        let number = self.number(place)?;
+        if low <= number && number <= high {
+            Ok(number)
+        } else {
+            Err(Reason::OutOfBounds {
+                word: usize::from(place) + 1,
+            })
+        }
+    }
+
+    // The number of a user or a compartment, which has to be the next one.
+    pub(crate) fn next(self, place: u8, next: usize) -> Result<(), Reason>
+        ensures { result ≡ next_at next self.entry.bytes.now place }
+    {
+        if self.number(place)? == next as u64 {
+            Ok(())
+        } else {
+            Err(Reason::NotNext { next })
+        }
+    }
+
+    // No word stands there any more.
+    pub(crate) fn ends(self, place: u8) -> Result<(), Reason>
+        ensures { result ≡ ends self.entry.bytes.now place }
+    {
+        if self.word(place).is_empty() {
+            Ok(())
+        } else {
+            Err(Reason::TooLong {
+                word: usize::from(place) + 1,
+            })
+        }
+    }
+}

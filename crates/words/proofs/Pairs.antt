@@ -1,0 +1,29 @@
+-- Rows are pairs of numbers, and a list of them is the first of those that are left.
+use Rattle.std.proofs.Common.{◌≡◌, ℕ, suc, ◌+◌, ◌/◌, ◌<◌, min, List, [], ◌∷◌, map, length, get_or, take, drop, refl, sym, ap, ◌∙◌, arith}
+use Rattle.std.proofs.lemmas.List.{drop_more, take_min, drop_min, take-map, drop-map}
+use Rattle.std.specs.Simd.{first_chunks}
+use Rattle.query.specs.Numbers.{split}
+use Rattle.rows.specs.Halving.{rows_of}
+use Rattle.words.specs.Words.{pair}
+
+pub pairs : (xs : List ℕ) → map pair (first_chunks 2 (length xs / 2) xs) ≡ rows_of xs
+pairs [] = refl
+pairs (k ∷ []) = refl
+pairs (k ∷ a ∷ xs) =
+    let half : suc (suc (length xs)) / 2 ≡ suc (length xs / 2) = omega arith in
+    rw (half, pairs xs) refl
+
+-- `list` are the first n rows and `behind` those behind them, or all and none if there are no more
+module _ (n : ℕ) (rows : List (List ℕ)) {mid : ℕ} (clipped : mid ≡ min n (length rows)) where
+  pub first_rows : {list : List (List ℕ)} → list ≡ take mid rows → map pair list ≡ take n (map pair rows)
+  first_rows e = ap (map pair) (e ∙ ap (λ m. take m rows) clipped ∙ take_min n rows) ∙ sym (take-map pair n rows)
+
+  pub rows_behind : {behind : List (List ℕ)} → behind ≡ drop mid rows → map pair behind ≡ drop n (map pair rows)
+  rows_behind e = ap (map pair) (e ∙ ap (λ m. drop m rows) clipped ∙ drop_min n rows) ∙ sym (drop-map pair n rows)
+
+-- the list at a place of the counts, and those behind it
+pub split_on : (counts : List ℕ) (i : ℕ) (rows : List (List ℕ)) {mid : ℕ} {list behind : List (List ℕ)} → i < length counts → mid ≡ min (get_or counts i 0) (length rows)
+    → list ≡ take mid rows → behind ≡ drop mid rows
+    → split (drop i counts) (map pair rows) ≡ map pair list ∷ split (drop (i + 1) counts) (map pair behind)
+split_on counts i rows there clipped first rest =
+    rw (drop_more counts i 0 there, first_rows (get_or counts i 0) rows clipped first, rows_behind (get_or counts i 0) rows clipped rest) refl

@@ -1,0 +1,14 @@
+use Rattle.std.proofs.Common.{◌≡◌, ℕ, List, ◌++◌, map, drop, codes}
+use denote.Text.{Utf8}
+use denote.Shadow.{shadow}
+use Rattle.std.specs.Fmt.{HasWritten, IsPlainFormatter}
+use Rattle.std.specs.List.{join_by}
+use Rattle.words.specs.Words.{pair, row_bytes}
+use Rattle.words.proofs.Turns.{led}
+use Rattle.words.proofs.lists.ListDisplay.fmt.Given as goal
+
+abbrev pub invariant-loop-key : goal.invariant-loop-key
+invariant-loop-key g l =
+    shadow (Utf8 l.blank)
+    × (IsPlainFormatter l.initial.f → (done : List ℕ) × HasWritten g.W.Write.write_str_gives l.initial.f done l.f
+    × (done ++ led row_bytes l.blank (map pair (drop l.key-index l.key-items)) ≡ join_by row_bytes (codes " ") (map pair l.key-items)))

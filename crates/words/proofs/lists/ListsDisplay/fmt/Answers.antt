@@ -1,0 +1,30 @@
+use Rattle.std.proofs.Common.{◌≡◌, ◌+◌, [], ◌++◌, map, drop, rules, refl}
+use Rattle.query.specs.Numbers.{split}
+use Rattle.std.proofs.lemmas.List.{drop_all}
+use Rattle.std.proofs.Output.{has_written_append, has_written_of_eq}
+use Rattle.words.specs.Words.{pair, list_bytes}
+use Rattle.words.proofs.Pairs.{split_on}
+use Rattle.words.proofs.Turns.{led_on, led_none}
+use Rattle.words.proofs.lists.ListsDisplay.fmt.Goals as goal
+
+pub loop-count-preserved : goal.loop-count-preserved
+loop-count-preserved g c =
+    let l = c.loop-count in
+    let counts = c.args.self.now.counts.now in
+    let list = map pair c.split_at.result.0.now in (
+      search rules,
+      λ plain.
+          let done = l.invariant.1 plain in
+          let here = split_on counts l.count-index l.left.now c.loop-count-test.true c.min.ensures c.split_at.ensures.front c.split_at.ensures.back in (
+            done.0 ++ (l.blank.now ++ list_bytes list),
+            has_written_append _ _ _ _ _ _ done.1 (search rules),
+            led_on list_bytes done.0 l.blank.now list (split (drop (l.count-index + 1) counts) (map pair c.split_at.result.1.now)) (rw here at done.2),
+          ),
+    )
+
+pub returns-clause-writes : goal.returns-clause-writes
+returns-clause-writes g c = λ plain ok.
+    let done = c.loop-count.invariant.1 plain in
+    let left = split (drop c.loop-count.count-index c.args.self.now.counts.now) (map pair c.loop-count.left.now) in
+    let none : left ≡ [] = rw (drop_all c.loop-count.count-index c.args.self.now.counts.now c.loop-count-test.false) refl in
+    has_written_of_eq _ _ _ _ _ (led_none list_bytes done.0 c.loop-count.blank.now left none done.2) done.1

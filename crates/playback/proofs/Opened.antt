@@ -12,9 +12,9 @@ use Rattle.std.proofs.lemmas.List.{length-replicate}
 use Rattle.std.proofs.lemmas.Bool.{cases_Bool, cond-true, cond-false, le-ltb, ltb-false}
 use Rattle.store.specs.Calls.{short, opened}
 use Rattle.store.proofs.Following.{open_holds}
-use Rattle.playback.specs.Along.{text_along, opened_text, opened_memory, opened_end}
-use Rattle.played.specs.Items.{items_of, ended_of}
-use Rattle.playback.specs.Played.{told_text, text_by, end_by, memory_for, short_of, LeftBy}
+use Rattle.playback.specs.Along.{text_along, opened_text, opened_memory}
+use Rattle.played.specs.Items.{items_of}
+use Rattle.playback.specs.Played.{told_text, text_by, memory_for, short_of, LeftBy}
 use Rattle.playback.specs.Printed.{Audience, Line, lent, heard_by, text}
 use Rattle.playback.proofs.Bounded.{items_bounded}
 use Rattle.playback.proofs.Whole.{text_is, memory_is, whole_is, lines_alike}
@@ -48,12 +48,6 @@ module _ (p : Policy) (bytes : List ℕ) (reads : Reads (policy_of bytes) p) whe
     | inr e ↦ cond-false (short p memory) _ _ e ∙ (told_is a memory e ∙ sym (ap (text_if a (length memory)) (short_is memory ∙ e)))
   ]
 
-  pub one_end : (memory : List ℕ) → opened_end p memory bytes ≡ end_by (short_of (length memory) bytes) bytes
-  one_end memory = elim (cases_Bool (short p memory)) [
-    | inl e ↦ let f = short_is memory ∙ e in rw (e, f) refl
-    | inr e ↦ let f = short_is memory ∙ e in rw (e, f) refl
-  ]
-
   pub one_left : (v : ℕ) (memory now : List ℕ) → now ≡ opened_memory p (Some v) memory bytes → LeftBy (short_of (length memory) bytes) v bytes memory now
   one_left v memory now i = elim (cases_Bool (short p memory)) [
     | inl e ↦ let f = short_is memory ∙ e in rw f (i ∙ cond-true (short p memory) _ _ e)
@@ -66,6 +60,3 @@ module _ (p : Policy) (bytes : List ℕ) (reads : Reads (policy_of bytes) p) whe
   pub all_text : (a : Audience) (memory : List ℕ) → length memory ≡ memory_length p → opened_text p a memory bytes ≡ told_text a bytes
   all_text a memory l =
       let e = le-ltb (length memory) (memory_length p) (omega arith) in cond-false (short p memory) _ _ e ∙ told_is a memory e
-
-  pub all_end : (memory : List ℕ) → length memory ≡ memory_length p → opened_end p memory bytes ≡ ended_of bytes
-  all_end memory l = let e = le-ltb (length memory) (memory_length p) (omega arith) in cond-false (short p memory) _ _ e

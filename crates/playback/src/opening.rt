@@ -14,9 +14,14 @@ pub(crate) fn play_everyone(heap: Global, text: &mut String, bytes: &[u8]) -> Re
     ensures text { UnlessMemory result (string_bytes text.new ≡ string_bytes text.old ++ text_of bytes.now) }
     ensures end { EndsBy result (end_of bytes.now) }
 {
-    let policy = wire::read_policy(bytes, MOST)?;
-    let mut memory = vec![in heap; 0; policy.memory_length()]?;
-    play_behind(text, &policy, memory.as_mut_slice(), None, bytes)
+    // A policy goes through no `?`: the check does not tell the borrow checker where the types of its fields lie.
+    match wire::read_policy(bytes, MOST) {
+        Ok(policy) => {
+            let mut memory = vec![in heap; 0; policy.memory_length()]?;
+            play_behind(text, &policy, memory.as_mut_slice(), None, bytes)
+        }
+        Err(refusal) => Err(refusal.into()),
+    }
 }
 
 // Plays for one user, in lent memory.
@@ -30,8 +35,10 @@ pub(crate) fn play_one(
     ensures end { EndsBy result (end_by (opening_with (length memory.old) bytes.now) bytes.now) }
     ensures after { UnlessMemory result (LeftBy (opening_with (length memory.old) bytes.now) user bytes.now memory.old memory.new) }
 {
-    let policy = wire::read_policy(bytes, MOST)?;
-    play_behind(text, &policy, memory, Some(user), bytes)
+    match wire::read_policy(bytes, MOST) {
+        Ok(policy) => play_behind(text, &policy, memory, Some(user), bytes),
+        Err(refusal) => Err(refusal.into()),
+    }
 }
 
 // Opens memory, and plays what lies behind the policy.

@@ -17,6 +17,7 @@ use store::Reply;
 const ROW: usize = 2080;
 
 // Plays the items up to where the trace is broken off, for one viewer or for everyone.
+// Text, memory and row are lent apart: a struct of them would have to promise in every call that it still holds the same three.
 pub(crate) fn play_items(
     text: &mut String,
     policy: &Policy,

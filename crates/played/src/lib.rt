@@ -22,6 +22,7 @@ pub const MOST: u64 = 64;
 #[derive(Debug, Drop)]
 pub struct Played {
     pub text: String,
+    // No Result: what was printed stands in any case.
     pub refused: Option<Refusal>,
 }
 

@@ -29,6 +29,9 @@ fn play_into(text: &mut String, bytes: &[u8]) -> Result<(), Stop>
     ensures text { UnlessMemory result (string_bytes text.new ≡ string_bytes text.old ++ text_of bytes.now) }
     ensures end { EndsBy result (end_of bytes.now) }
 {
-    let policy = wire::read_policy(bytes, MOST)?;
-    play_items(text, &policy, Items::of(bytes))
+    // A policy goes through no `?`: the check does not tell the borrow checker where the types of its fields lie.
+    match wire::read_policy(bytes, MOST) {
+        Ok(policy) => play_items(text, &policy, Items::of(bytes)),
+        Err(refusal) => Err(refusal.into()),
+    }
 }

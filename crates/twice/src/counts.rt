@@ -4,13 +4,13 @@ use crate::mix::Call;
 use crate::side::Response;
 use crate::trace::Trace;
 use policy::Policy;
-use query::Query;
 use request::Request;
 use std::fmt;
 use store::Reply;
 
 #[derive(Drop)]
 pub(crate) struct Counts {
+    // A count for each event, in the enum's order: those that never happen are told too, and a map would leave them out.
     counts: [u64; EVENTS],
 }
 
@@ -65,11 +65,7 @@ impl Counts {
         }
         let range = match call.request {
             Request::Copy { range, .. } => range,
-            Request::Query { query, .. } => match query {
-                Query::Rows { range } | Query::Total { range } | Query::Shared { range, .. } => {
-                    range
-                }
-            },
+            Request::Query { query, .. } => query.range(),
             Request::Write { .. } | Request::Delete { .. } => return,
         };
         self.add_if(range.from > range.to, Event::Backward);

@@ -7,12 +7,12 @@ use Rattle.trace.specs.Played.{policy_of}
 use Rattle.trace.proofs.Sameness.{lines_same}
 use Rattle.trace.proofs.play_into.Goals as goal
 
-pub returns-clause-text : goal.returns-clause-text
-returns-clause-text c =
+pub returns-in-Ok-clause-text : goal.returns-in-Ok-clause-text
+returns-in-Ok-clause-text c =
     let bytes = c.args.bytes.now in
-    let p = c.in_ok-policy.policy in
+    let p = c.in-Ok.policy in
     let ns = policy_of bytes in
-    let reads = c.in_ok-policy.ensures in
+    let reads = c.in-Ok.ensures in
     let same = lines_same (rules_of p) (rules_in ns) (compartments_in ns) (reads_rules ns p reads.reads) (items_of bytes) in
     let told = rw c.of.ensures at c.play_items.ensures.text in
     rw (sym reads.refused) (rw same at told)

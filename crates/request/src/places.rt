@@ -9,6 +9,7 @@ pub(crate) const USERS: u64 = 32;
 
 pub(crate) const COMPARTMENTS: u64 = 16;
 
+// Slice and place stay two parameters: with a struct around the slice, each clause here reads `self.entry.0.now`.
 fn number_at(numbers: &[u64], place: usize) -> Result<u64, Refusal>
     ensures { result ≡ number_at numbers.now place }
 {

@@ -82,6 +82,7 @@ fn planned(from: &[u64], source: usize, into: &[u64], destination: usize, keys: 
 
 // Merges the rows to copy among those of the destination, a row with the same key being replaced, and moves those behind
 // them once; where a part lies outside memory, the two overlap or there are to be fewer rows than before, nothing changes.
+// It says whether it was done: with no value and no reason beside the answer, an `Option<()>` would say no more.
 pub fn merge_into(memory: &mut [u64], copying: Copying) -> bool
     ensures told { result ≡ fits copying (length memory.old) }
     ensures after { memory.new ≡ merged_into copying memory.old }
@@ -122,6 +123,7 @@ fn merge(memory: &mut [u64], copying: Copying)
     requires { Left copying (length memory.old) }
     ensures { memory.new ≡ merging copying.total copying memory.old }
 {
+    // The two counts go down in turns that the keys decide, so that no range and no iterator counts them.
     let mut left = copying;
     while left.copied > 0 && left.total > 0 {
         left.turn(memory);

@@ -4,6 +4,8 @@
 use std::io::{self, Read};
 use std::process::ExitCode;
 
+// The same three lines stand in `play_all`, over `playback`: one function for both would be public and take what plays as a
+// closure, and no public function here requires anything.
 fn main(rt: HostRuntime) -> io::Result<ExitCode> {
     let mut bytes = Vec::new(rt.alloc());
     rt.stdin().read_to_end(&mut bytes)?;

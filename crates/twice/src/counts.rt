@@ -41,11 +41,9 @@ impl Counts {
     }
 
     fn add_capacities(&mut self, policy: &Policy) {
-        for compartment in 0..16u64 {
-            if let Some(place) = policy.place(compartment) {
-                self.add_if(place.capacity == 1, Event::LeastCapacity);
-                self.add_if(place.capacity == 64, Event::MostCapacity);
-            }
+        for place in policy.places() {
+            self.add_if(place.capacity == 1, Event::LeastCapacity);
+            self.add_if(place.capacity == 64, Event::MostCapacity);
         }
     }
 

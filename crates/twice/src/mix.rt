@@ -6,7 +6,7 @@ use request::Request;
 use rows::{KeyRange, Row};
 use std::alloc::{AllocError, Global};
 
-// The longest answer row that a policy of capacities up to 64 asks for.
+// The longest answer row that a policy of capacities up to 64 asks for; said for itself, as the length of memory is.
 pub(crate) const LONGEST: usize = 2080;
 
 // How many requests of a trace are mostly changes, so that there is something to ask for.

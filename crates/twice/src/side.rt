@@ -5,7 +5,8 @@ use policy::{Policy, Refusal};
 use std::alloc::{AllocError, Global};
 use store::Reply;
 
-// As many numbers as 16 compartments of 64 rows and the caches of 32 users take.
+// As many numbers as 16 compartments of 64 rows and the caches of 32 users take. `play_for` has this number too: the random
+// traces say for themselves how large they are, and take no number from the programs that they are beside.
 const MEMORY: usize = 8224;
 
 // What a call tells.

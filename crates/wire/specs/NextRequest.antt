@@ -86,15 +86,3 @@ abbrev pub Takes : ℕ → Next → Type 0
 Takes bytes (Next.Request request length) = (0 < length) × (length ≤ bytes)
 Takes bytes (Fault user place length) = (0 < length) × (length ≤ bytes)
 Takes bytes (End place) = Unit {0}
-
--- how many bytes it takes, unless the trace ends there
-abbrev pub taken : Next → Option ℕ
-taken (Next.Request r length) = Some length
-taken (Fault user place length) = Some length
-taken (End place) = None
-
--- why the trace is broken off, if it is
-abbrev pub refused : Next → Option Refusal
-refused (Next.Request r length) = None
-refused (Fault user place length) = None
-refused (End place) = Some (NoRequest place)

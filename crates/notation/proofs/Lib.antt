@@ -1,4 +1,3 @@
-pub mod Texts
 pub mod Oks
 pub mod Viewing
 pub mod Pushes

@@ -1,13 +1,31 @@
 -- The lines of a text, one on.
-use Rattle.std.proofs.Common.{◌≡◌, ℕ, ◌+◌, ◌<◌, List, length, get_or, drop, Ok, Result, sym, ap, ◌∙◌, arith}
+use Rattle.std.proofs.Common.{◌≡◌, ℕ, ◌+◌, ◌<◌, List, length, get_or, drop, Ok, Result, sym, ap, ◌∙◌, arith, Bor, Bool, false, ◌==◌}
 use Rattle.std.proofs.lemmas.List.{at_drop_more, at_drop_all}
 use Rattle.std.proofs.lemmas.List.FromFn.{get_or-enumerate_from, length-enumerate_from}
+use Rattle.std.proofs.lemmas.Iterator.{YieldsList}
+use Rattle.std.proofs.lemmas.Iterator.Consumers.{YieldsList-at, YieldsList-from_enumerate}
+use Rattle.std.proofs.lemmas.Iterator.Splits.{YieldsList-from_slice_split}
+use Rattle.std.specs.Fn.{CalledAt}
+use Rattle.std.specs.Iterator.Adapters.{enumerate_source, enumerate_count, enumerate_steps}
 use Rattle.std.specs.List.{enumerate_from}
+use Rattle.std.specs.Slice.Iter.{split_rest, split_done, split_callee, split_steps}
+use Rattle.std.specs.declared.iter.Enumerate.{Enumerate}
+use Rattle.std.specs.declared.slice.Split.{Split}
+use denote.Param.Members.{Mut}
+use Rattle.notation.specs.Words.{lines}
 use Rattle.notation.specs.Lines.{then}
 use Rattle.notation.specs.Said.{Fails, Said, at_line, line_said, lines_said, whole}
 use Rattle.notation.specs.declared.fault.Fault.{Fault}
 use Rattle.notation.specs.declared.fault.ReadError.{ReadError}
 use Rattle.notation.specs.declared.fault.ReadError.TheVariants as error
+
+-- the lines of a text, each with its place, come one by one
+pub lines_yielded : {F : Type 0} {t u : Enumerate (Split ℕ F)} {s : Split ℕ F} {f : F} (g : Mut F (Bor ℕ × Unit {0}) Bool) (text : List ℕ) →
+    u ≡ t → enumerate_source t ≡ s → enumerate_count t ≡ 0 → split_rest s ≡ text → split_done s ≡ false → split_callee s ≡ f →
+    ((x : ℕ) (b : Bool) (q : F) → CalledAt g f x b q → (q ≡ f) × (b ≡ (x == 10))) →
+    YieldsList {B = ℕ × List ℕ} (enumerate_steps (split_steps g)) (λ p. (p.0, p.1.now)) u (enumerate_from 0 (lines text))
+lines_yielded g text is source count rest done callee calls =
+    YieldsList-at is (YieldsList-from_enumerate (YieldsList-at source (YieldsList-from_slice_split g (λ x. x == 10) text rest done callee calls)) count)
 
 -- an item of `enumerate` is a place, and the line that stands there
 module _ (lines : List (List ℕ)) (n last i : ℕ) (line : List ℕ) (counted : last ≡ n)

@@ -41,7 +41,7 @@ fn capacity_in(line: Line, compartment: usize) -> Result<u64, Reason>
     ensures { result ≡ capacity_said compartment line.entry.bytes.now }
 {
     line.named(0, Name::Capacity)?;
-    line.next(1, compartment)?;
+    line.next_number(1, compartment)?;
     let capacity = line.within(2, 1, 64)?;
     line.ends(3)?;
     Ok(capacity)

@@ -105,7 +105,7 @@ impl<'a> Line<'a> {
     }
 
     // The number of a user or a compartment, which has to be the next one.
-    pub(crate) fn next(self, place: u8, next: usize) -> Result<(), Reason>
+    pub(crate) fn next_number(self, place: u8, next: usize) -> Result<(), Reason>
         ensures { result ≡ next_at next self.entry.bytes.now place }
     {
         if self.number(place)? == next as u64 {

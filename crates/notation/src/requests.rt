@@ -1,5 +1,5 @@
 // The request that a line says.
-ghost use Rattle.std.specs.Prelude.{◌≡◌, ◌<◌};
+ghost use Rattle.std.specs.Prelude.{◌≡◌, ◌<◌, ◌≤◌, IfOk};
 ghost use Rattle.notation.specs.Lines.{asked, key_at, query_said, range_at, request_said, within};
 
 use crate::fault::Reason;
@@ -9,9 +9,10 @@ use query::Query;
 use request::{QueryKind, Request};
 use rows::{KeyRange, Row};
 
-// The number of a user or a compartment, from 0 up to this one.
+// The number there, from 0 up to this one.
 fn up_to<const HIGH: u64>(line: Line, place: u8) -> Result<usize, Reason>
-    ensures { result ≡ within 0 HIGH line.entry.bytes.now place }
+    ensures value { result ≡ within 0 HIGH line.entry.bytes.now place }
+    ensures bound { IfOk result (λ n. n ≤ HIGH) }
 {
     let number = line.within(place, 0, HIGH)?;
     Ok(number as usize)
@@ -21,7 +22,7 @@ fn up_to<const HIGH: u64>(line: Line, place: u8) -> Result<usize, Reason>
 fn key_at(line: Line, place: u8) -> Result<u32, Reason>
     ensures { result ≡ key_at line.entry.bytes.now place }
 {
-    let key = line.within(place, 0, 0xffff_ffff)?;
+    let key = up_to::<0xffff_ffff>(line, place)?;
     Ok(key as u32)
 }
 

@@ -44,7 +44,7 @@ pub(crate) fn user_in(line: Line, user: usize, compartments: u64) -> Result<Cont
     ensures { then result (λ c. Ok (seen_of c)) ≡ user_said user compartments line.entry.bytes.now }
 {
     line.named(0, Name::User)?;
-    line.next(1, user)?;
+    line.next_number(1, user)?;
     line.named(2, Name::Sees)?;
     seen_in(line, compartments)
 }

@@ -12,7 +12,5 @@ who (Ask user query) = user
 
 -- is it a query?
 abbrev pub asks : Request → Bool
-asks (Write user row) = false
-asks (Delete user key) = false
-asks (Copy user compartment range) = false
 asks (Ask user query) = true
+asks _ = false

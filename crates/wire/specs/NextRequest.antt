@@ -2,7 +2,7 @@
 use Rattle.std.specs.Prelude.{◌≡◌, ℕ, ◌+◌, ◌<◌, ◌≤◌, cond, List, length, Some, None, Ok, Err, Option, Result, nat_lt, slice_index}
 use Rattle.std.specs.Result.{result_ok}
 use Rattle.policy.specs.declared.refusal.Refusal.{Refusal}
-use Rattle.policy.specs.declared.refusal.Refusal.TheVariants.{OutOfBounds, BadView, NoRequest, NoUser, NoFlow, NoRoom, NoRow, ShortRow, LastVersion}
+use Rattle.policy.specs.declared.refusal.Refusal.TheVariants.{NoRequest}
 use Rattle.request.specs.declared.Request.{Request}
 use Rattle.request.specs.declared.kinds.Kind.{Kind}
 use Rattle.request.specs.declared.kinds.Kind.TheVariants.{Write, Delete, Copy, Query}
@@ -58,15 +58,8 @@ front_layout = fours 3 0
 
 -- the place at which numbers are refused; no other refusal comes of them
 abbrev pub place_refused : Refusal → ℕ
-place_refused (OutOfBounds place) = 0
-place_refused (BadView user) = 0
 place_refused (NoRequest place) = place
-place_refused (NoUser user) = 0
-place_refused (NoFlow compartment) = 0
-place_refused (NoRoom capacity) = 0
-place_refused (NoRow key) = 0
-place_refused (ShortRow length) = 0
-place_refused (LastVersion compartment) = 0
+place_refused _ = 0
 
 abbrev pub place_at_fault : Result Request Refusal → ℕ
 place_at_fault (Ok request) = 0

@@ -1,17 +1,13 @@
 -- Words written one by one: a turn writes one of those that are left.
 use Rattle.std.proofs.Common.{◌≡◌, ℕ, ◌≤◌, List, [], ◌∷◌, ◌++◌, codes, length, map, drop, refl, sym, ◌∙◌, append_assoc, append-nil}
 use Rattle.std.proofs.lemmas.List.{drop_all}
-use Rattle.std.specs.List.{flat_map, join_by}
+use Rattle.std.specs.List.{flat_map}
 
 module _ {X : Type 0} (word : X → List ℕ) where
   -- what is written of some words, the first with `blank` before it
   abbrev pub led : List ℕ → List X → List ℕ
   led blank [] = []
   led blank (x ∷ xs) = blank ++ (word x ++ flat_map (λ y. codes " " ++ word y) xs)
-
-  pub led_first : (xs : List X) → led [] xs ≡ join_by word (codes " ") xs
-  led_first [] = refl
-  led_first (x ∷ xs) = refl
 
   led_next : (xs : List X) → led (codes " ") xs ≡ flat_map (λ y. codes " " ++ word y) xs
   led_next [] = refl

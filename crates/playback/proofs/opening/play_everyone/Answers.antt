@@ -12,4 +12,3 @@ returns-in_ok-memory-in-Ok-clause-text c =
     let long : length memory ≡ memory_length p =
     ap length (c.as_mut_slice.ensures.value ∙ c.in_ok-memory-in-Ok.ensures.items_if_clones_equal (λ y e. e)) ∙ (length-replicate {A = ℕ} _ 0 ∙ c.memory_length.ensures) in
     rw (sym reads.refused) (rw (all_text p c.args.bytes.now reads.reads None memory long) at c.play_behind.ensures.text)
-

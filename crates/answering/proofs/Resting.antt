@@ -21,7 +21,7 @@ use Rattle.cache.specs.Places.{look_up}
 use Rattle.answering.specs.Places.{version_at, part_at, fault_at, lower, damaged}
 use Rattle.answering.specs.Asked.{versions_in, parts_in, cache_part, recalled, recalled_row, worked_out, worked_row, told_by, row_by, found, refusal_by, refusal_of, unless, checked_by, checked}
 use Rattle.answering.specs.Alike.{Alike, RestDoesNotShow}
-use Rattle.answering.proofs.Tied.{never_some}
+use Rattle.std.proofs.lemmas.Option.{none-some, same_Some}
 use Rattle.std.specs.Option.{ok_or}
 
 same_damaged : (p : Policy) (memory other cs : List ℕ) → ((c : ℕ) → has cs c ≡ true → fault_at p memory c ≡ fault_at p other c) → damaged p memory cs ≡ damaged p other cs
@@ -30,16 +30,13 @@ same_damaged p memory other (c ∷ cs) h =
     ap (λ (o : Option ℕ). lower o (damaged p memory cs)) (h c (has_head c cs))
     ∙ ap (λ (o : Option ℕ). lower (fault_at p other c) o) (same_damaged p memory other cs (λ d k. h d (has_tail c d cs k)))
 
-same_contract : (a b : Contract) → Some a ≡ Some b → a ≡ b
-same_contract a b e = cc
-
 -- a contract has the view of the rules
 view_is : (p : Policy) (user : ℕ) (k : Contract) → contract_at p user ≡ Some k → view_of k ≡ (rules_of p).view user
 view_is p user k e = elim (cases_lt user p.users) [
   | inl h ↦
       let f : Some (get_or p.contracts user nobody) ≡ Some k = sym (ap (λ (b : Bool). cond b (Some (get_or p.contracts user nobody)) None) (lt-ltb user p.users h)) ∙ e in
-      ap (λ (c : Contract). view_of c) (sym (same_contract (get_or p.contracts user nobody) k f) ∙ sym (get_or-take p.users p.contracts user nobody h))
-  | inr h ↦ absurd (never_some k (sym (ap (λ (b : Bool). cond b (Some (get_or p.contracts user nobody)) None) (le-ltb user p.users h)) ∙ e))
+      ap (λ (c : Contract). view_of c) (sym (same_Some (get_or p.contracts user nobody) k f) ∙ sym (get_or-take p.users p.contracts user nobody h))
+  | inr h ↦ absurd (none-some k (sym (ap (λ (b : Bool). cond b (Some (get_or p.contracts user nobody)) None) (le-ltb user p.users h)) ∙ e))
 ]
 
 module _ (p : Policy) (user : ℕ) (query : Query) (memory other row : List ℕ) (h : Alike p user memory other) where

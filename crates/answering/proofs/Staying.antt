@@ -16,7 +16,7 @@ use Rattle.cache.specs.declared.Kept.{Kept}
 use Rattle.answering.specs.Places.{version_in, part_in, fault_in}
 use Rattle.answering.specs.Asked.{versions_in, with_cache, kept_by, worked_out, memory_by, found, refusal_of, unless, checked_by}
 use Rattle.answering.specs.Stay.{SameThere, CompartmentsStay}
-use Rattle.answering.proofs.Tied.{never_some, same_some}
+use Rattle.std.proofs.lemmas.Option.{none-some, same_Some}
 
 -- the front of a list is the same whatever stands behind it
 front : (xs ys : List ℕ) (n j : ℕ) → j + n ≤ length xs → take n (drop j (xs ++ ys)) ≡ take n (drop j xs)
@@ -63,9 +63,9 @@ cache_behind : (p : Policy) (user at : ℕ) → cache_at p user ≡ Some at → 
 cache_behind p user at e = elim (cases_lt user p.users) [
   | inl h ↦
       let place = end_from 0 (capacities_of p) + 192 * user in
-      let i = same_some place at (sym (ap (λ (b : Bool). cond b (Some place) None) (lt-ltb user p.users h)) ∙ e) in
+      let i = same_Some place at (sym (ap (λ (b : Bool). cond b (Some place) None) (lt-ltb user p.users h)) ∙ e) in
       (omega arith, omega arith)
-  | inr h ↦ absurd (never_some at (sym (ap (λ (b : Bool). cond b (Some (end_from 0 (capacities_of p) + 192 * user)) None) (le-ltb user p.users h)) ∙ e))
+  | inr h ↦ absurd (none-some at (sym (ap (λ (b : Bool). cond b (Some (end_from 0 (capacities_of p) + 192 * user)) None) (le-ltb user p.users h)) ∙ e))
 ]
 
 module _ (p : Policy) (c long user : ℕ) (query : Query) (memory : List ℕ) (l : memory_length p ≤ length memory) where

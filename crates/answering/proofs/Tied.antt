@@ -1,6 +1,7 @@
 -- A query over memory that holds what a user sees of a state does as the model.
 use Rattle.std.proofs.Common.{◌≡◌, ℕ, ◌+◌, ◌-◌, ◌*◌, ◌<◌, ◌≤◌, Bool, true, false, cond, ◌&&◌, ltb, leb, List, [], ◌∷◌, ◌++◌, length, get_or, take, drop, Some, None, Ok, Err, Option, Result, sym, refl, ap, ◌∙◌, subst, inl, inr, arith}
 use Rattle.std.proofs.lemmas.List.{length-map, get_or-take, take-append-drop}
+use Rattle.std.proofs.lemmas.Option.{none-some, same_Some}
 use Rattle.std.proofs.lemmas.Bool.{cases_Bool, cases_lt, lt-ltb, le-ltb, le-leb, lt-leb, leb-true, eq-eqb}
 use Rattle.rows.specs.Halving.{flat}
 use Rattle.policy.specs.declared.contract.Contract.{Contract}
@@ -25,13 +26,14 @@ use Rattle.query.proofs.Seen.{same_map}
 use Rattle.query.proofs.Written.{rows_hold_answers, lent_is_seen}
 use Rattle.cache.specs.declared.Kept.{Kept}
 use Rattle.cache.specs.declared.Kept.TheVariants.{Rows as kept_rows, Total as kept_total, Shared as kept_shared, NotSeen as kept_none}
+use Rattle.cache.specs.Kept.{kept_from}
 use Rattle.cache.specs.Entries.{Entry, held, OfView}
 use Rattle.cache.specs.Places.{look_up, keep_in}
 use Rattle.cache.proofs.Stored.{look_up_flat, find_is_exact, keep_held}
 use Rattle.request.specs.declared.Request.TheVariants.{Query as Ask}
 use Rattle.model.specs.Model.{State, Response, refused, answered, response, step, lend, needed, capacities, keep, recall, answering, entry, versions_seen, look_up as found_among}
 use Rattle.answering.specs.Places.{version_at, part_at, fault_at, lower, damaged}
-use Rattle.answering.specs.Asked.{versions_in, parts_in, cache_part, with_cache, kept_of, recalled, recalled_row, kept_by, worked_out, worked_row, told_by, memory_by, row_by, found, refusal_by, refusal_of, unless, checked_by, checked, asked_told, asked_memory, asked_row}
+use Rattle.answering.specs.Asked.{versions_in, parts_in, cache_part, with_cache, recalled, recalled_row, kept_by, worked_out, worked_row, told_by, memory_by, row_by, found, refusal_by, refusal_of, unless, checked_by, checked, asked_told, asked_memory, asked_row}
 use Rattle.answering.specs.Tie.{Holds, Tells, row_with, AsModelWithRow, QueriesAsModel, QueriesAsModelWithRow}
 use Rattle.std.specs.Option.{ok_or}
 
@@ -73,30 +75,24 @@ refusal_is r user (Shared a b range) long = elim (cases_Bool (has (r.view user) 
   | inr e ↦ rw e (none_needed long)
 ]
 
-pub same_some : (a b : ℕ) → Some a ≡ Some b → a ≡ b
-same_some a b e = cc
-
-pub never_some : {A : Type 0} (a : A) → None ≡ Some a → ⊥
-never_some a e = let z : ◌≡◌ {A = ℕ} 0 1 = cc in omega arith
-
 long_enough : (r : Rules) (user : ℕ) (query : Query) (long : ℕ) → leb (needed r user query) long ≡ true →
     (n : ℕ) → needed_for r.capacity (r.view user) query ≡ Some n → n ≤ long
 long_enough r user (Rows range) long t n e =
     let l : 32 + 2 * capacities r (r.view user) ≤ long = leb-true (32 + 2 * capacities r (r.view user)) long t in
-    let i = same_some (32 + 2 * room r.capacity (r.view user)) n e in
+    let i = same_Some (32 + 2 * room r.capacity (r.view user)) n e in
     let s = same_room r (r.view user) in
     omega arith
 long_enough r user (Total range) long t n e =
     let l : 32 + 2 * capacities r (r.view user) ≤ long = leb-true (32 + 2 * capacities r (r.view user)) long t in
-    let i = same_some (32 + 2 * room r.capacity (r.view user)) n e in
+    let i = same_Some (32 + 2 * room r.capacity (r.view user)) n e in
     let s = same_room r (r.view user) in
     omega arith
 long_enough r user (Shared a b range) long t n e = elim (cases_Bool (has (r.view user) a && has (r.view user) b)) [
   | inl h ↦
       let l = leb-true (32 + 2 * r.capacity a) long (rw h at t) in
-      let i = same_some (32 + 2 * r.capacity a) n (rw h at e) in
+      let i = same_Some (32 + 2 * r.capacity a) n (rw h at e) in
       omega arith
-  | inr h ↦ absurd (never_some n (rw h at e))
+  | inr h ↦ absurd (none-some n (rw h at e))
 ]
 
 -- THE CHECKS
@@ -152,7 +148,7 @@ module _ (r : Rules) (limit : ℕ) (s : State) (user : ℕ) (query : Query) (len
 
 -- WHAT IS TOLD
 
-kept_is : (a : Answered) (row : List ℕ) → kept_of a ≡ keep (read_answer a row)
+kept_is : (a : Answered) (row : List ℕ) → kept_from a ≡ keep (read_answer a row)
 kept_is (InRows compartments) row = refl
 kept_is (InTotal rows amount) row = refl
 kept_is (InShared rows) row = refl
@@ -251,7 +247,7 @@ module _ (p : Policy) (limit : ℕ) (s : State) (user : ℕ) (query : Query) (me
       record {
         model = record {
           told = tells_by _ _ _ _ _ _ (checked_absent refuse told_of p memory (length row) user query h.long u) refl (model_absent (rules_of p) limit s user query (length row) f) refl;
-          kept = λ at i. absurd (never_some at (sym (ap (λ (b : Bool). cond b (Some place) None) f) ∙ i));
+          kept = λ at i. absurd (none-some at (sym (ap (λ (b : Bool). cond b (Some place) None) f) ∙ i));
           absent = λ i. m;
         };
         left = left_by _ _ _ _ _ (checked_absent row_left row_of p memory (length row) user query h.long u) (model_absent (rules_of p) limit s user query (length row) f) refl;
@@ -323,13 +319,13 @@ module _ (p : Policy) (limit : ℕ) (s : State) (user : ℕ) (query : Query) (me
           settled refuse told_of true t ∙ ap (λ (o : Option Kept). told_by p memory view query (length row) o) f ∙ worked told w in
           let b : asked_row p memory row user query ≡ row_again =
           settled row_left row_of true t ∙ ap (λ (o : Option Kept). row_by p memory view query row o) f ∙ again_is in
-          let m : asked_memory p memory (length row) user query ≡ with_cache place (keep_in query (versions_in p memory view) (kept_of told.answered) (cache_part place memory)) memory =
+          let m : asked_memory p memory (length row) user query ≡ with_cache place (keep_in query (versions_in p memory view) (kept_from told.answered) (cache_part place memory)) memory =
           settled memory_left memory_of true t
           ∙ ap (λ (o : Option Kept). memory_by p memory view (versions_in p memory view) place query (length row) o) f
           ∙ ap (λ (x : Result Outcome Refusal). kept_by place query (versions_in p memory view) memory x) (worked told w) in
           let n : asked_memory p memory (length row) user query ≡ with_cache place (held 8 next_cache) memory =
           m
-          ∙ ap (λ (ws : List ℕ). with_cache place (keep_in query ws (kept_of told.answered) (cache_part place memory)) memory) versions_are
+          ∙ ap (λ (ws : List ℕ). with_cache place (keep_in query ws (kept_from told.answered) (cache_part place memory)) memory) versions_are
           ∙ ap (λ (k : Kept). with_cache place (keep_in query vs k (cache_part place memory)) memory) (kept_is told.answered row_again ∙ ap (λ (x : Answer). keep x) w.tells.right)
           ∙ ap (λ (ps : List ℕ). with_cache place (keep_in query vs new ps) memory) (h.cache place here)
           ∙ ap (λ (ps : List ℕ). with_cache place ps memory) (keep_held (entry (rules_of p) s user query) 8 (s.cache user) h.few)
@@ -337,8 +333,8 @@ module _ (p : Policy) (limit : ℕ) (s : State) (user : ℕ) (query : Query) (me
           record {
             model = record {
               told = tells_by _ _ _ _ _ _ a b (model_told (rules_of p) limit s user query (length row) l None t e) (told_right _ _ _ _ w.tells.right w.tells.examined);
-              kept = λ at i. n ∙ ap (λ (k : ℕ). with_cache k (held 8 next_cache) memory) (same_some place at (sym here ∙ i));
-              absent = λ i. absurd (never_some place (sym i ∙ here));
+              kept = λ at i. n ∙ ap (λ (k : ℕ). with_cache k (held 8 next_cache) memory) (same_Some place at (sym here ∙ i));
+              absent = λ i. absurd (none-some place (sym i ∙ here));
             };
             left = left_by _ _ _ _ _ b (model_told (rules_of p) limit s user query (length row) l None t e) w.left;
           }

@@ -1,28 +1,7 @@
--- Compartments and caches lie within memory.
-use Rattle.std.proofs.Common.{◌≡◌, ℕ, ◌+◌, ◌-◌, ◌≤◌, List, take, drop, IfSome, refl, inl, inr, arith}
+-- A user's cache, lent as a part of memory.
+use Rattle.std.proofs.Common.{◌≡◌, ℕ, ◌+◌, ◌-◌, List, take, drop, refl, arith}
 use borrow.Rule.Slice.PartMut.{put_mid}
-use Rattle.std.proofs.lemmas.Bool.{cases_lt, lt-ltb, le-ltb}
-use Rattle.policy.specs.Access.{place_at, cache_at, memory_length}
-use Rattle.policy.specs.declared.Policy.{Policy}
-use Rattle.policy.proofs.Proved.{compartments_apart}
-use Rattle.answering.specs.Places.{Inside}
 use Rattle.answering.specs.Asked.{cache_part, with_cache}
-
-pub place_inside : (p : Policy) (c : ℕ) → IfSome (place_at p c) (λ place. Inside p place)
-place_inside p c = elim (cases_lt c p.compartments) [
-  | inl h ↦
-      let a = (compartments_apart p c h).0 in
-      let b = p.behind in
-      let n = p.near in
-      rw (lt-ltb c p.compartments h) (record { within = omega arith; near = omega arith; few = omega arith })
-  | inr h ↦ rw (le-ltb c p.compartments h) tt
-]
-
-pub cache_inside : (p : Policy) (u : ℕ) → IfSome (cache_at p u) (λ at. at + 192 ≤ memory_length p)
-cache_inside p u = elim (cases_lt u p.users) [
-  | inl h ↦ rw (lt-ltb u p.users h) (omega arith)
-  | inr h ↦ rw (le-ltb u p.users h) tt
-]
 
 -- a part that is lent has 192 numbers
 long : (at : ℕ) → at + 192 - at ≡ 192

@@ -7,13 +7,14 @@ use Rattle.policy.specs.declared.refusal.Refusal.TheVariants.{OutOfBounds, NoUse
 use Rattle.policy.specs.Access.{rules_of, contract_at, cache_at, memory_length}
 use Rattle.policy.specs.Views.{view_of}
 use Rattle.query.specs.declared.Answered.{Answered}
-use Rattle.query.specs.declared.Answered.TheVariants.{Rows as InRows, Total as InTotal, Shared as InShared, NotSeen as InNone}
+use Rattle.query.specs.declared.Answered.TheVariants.{Total as InTotal, NotSeen as InNone}
 use Rattle.query.specs.declared.Outcome.{Outcome}
 use Rattle.query.specs.declared.Query.{Query}
 use Rattle.query.specs.Looks.{looked_at, needed_for}
 use Rattle.query.specs.Numbers.{outcome, row_after}
 use Rattle.cache.specs.declared.Kept.{Kept}
 use Rattle.cache.specs.declared.Kept.TheVariants.{Rows, Total, Shared, NotSeen}
+use Rattle.cache.specs.Kept.{kept_from}
 use Rattle.cache.specs.Places.{look_up, keep_in}
 use Rattle.answering.specs.Places.{version_at, part_at, damaged}
 use Rattle.std.specs.Option.{ok_or}
@@ -33,13 +34,6 @@ cache_part at memory = take 192 (drop at memory)
 -- memory with another cache there
 abbrev pub with_cache : ℕ → List ℕ → List ℕ → List ℕ
 with_cache at cache memory = take at memory ++ (cache ++ drop 192 (drop at memory))
-
--- what is kept of an answer
-abbrev pub kept_of : Answered → Kept
-kept_of (InRows compartments) = Rows
-kept_of (InTotal rows amount) = Total rows amount
-kept_of (InShared rows) = Shared
-kept_of InNone = NotSeen
 
 -- an answer, with no row examined
 abbrev pub unexamined : Answered → Outcome
@@ -65,7 +59,7 @@ recalled_row NotSeen again row = row
 
 -- memory after something was worked out
 abbrev pub kept_by : ℕ → Query → List ℕ → List ℕ → Result Outcome Refusal → List ℕ
-kept_by at query versions memory (Ok told) = with_cache at (keep_in query versions (kept_of told.answered) (cache_part at memory)) memory
+kept_by at query versions memory (Ok told) = with_cache at (keep_in query versions (kept_from told.answered) (cache_part at memory)) memory
 kept_by at query versions memory (Err refusal) = memory
 
 -- what the compartments that a query looks at tell; nothing where the row has no room for their rows

@@ -1,14 +1,8 @@
 -- What memory holds of a compartment, for every content: its version, its rows, and which of its numbers is out of bounds.
-use Rattle.std.specs.Prelude.{ℕ, ◌+◌, ◌*◌, ◌^◌, ◌≤◌, min, cond, List, [], ◌∷◌, take, drop, Some, None, Option, nat_le, nat_lt, slice_index}
+use Rattle.std.specs.Prelude.{ℕ, ◌+◌, ◌*◌, ◌^◌, min, cond, List, [], ◌∷◌, take, drop, Some, None, Option, nat_le, nat_lt, slice_index}
 use Rattle.policy.specs.declared.place.Place.{Place}
 use Rattle.policy.specs.declared.Policy.{Policy}
-use Rattle.policy.specs.Access.{place_at, memory_length}
-
--- a compartment's numbers lie in memory
-pub record Inside (p : Policy) (place : Place) : Type 0 where
-  pub within : place.start + 2 + 2 * place.capacity ≤ memory_length p
-  pub near : place.start ≤ 131104
-  pub few : place.capacity ≤ 65552
+use Rattle.policy.specs.Access.{place_at}
 
 abbrev pub version_in : List ℕ → Option Place → ℕ
 version_in memory None = 0

@@ -1,23 +1,13 @@
 // A user's cache in memory.
-ghost use Rattle.std.specs.Prelude.{◌≡◌, ◌+◌, ◌≤◌, length, IfSome};
-ghost use Rattle.policy.specs.Access.{cache_at, memory_length};
+ghost use Rattle.std.specs.Prelude.{◌≡◌, ◌+◌, ◌≤◌, length};
 ghost use Rattle.cache.specs.Places.{look_up, keep_in};
-ghost use Rattle.answering.specs.Asked.{cache_part, with_cache, kept_of};
+ghost use Rattle.answering.specs.Asked.{cache_part, with_cache};
 
 use cache::Kept;
-use policy::Policy;
-use query::{Answered, Query};
+use query::Query;
 
 // Eight places of 24 numbers.
 const SIZE: usize = 192;
-
-// Where a user's cache begins, if they are there: it lies within memory.
-pub(crate) fn cache_in(policy: &Policy, user: usize) -> Option<usize>
-    ensures value { result ≡ cache_at policy.now user }
-    ensures inside { IfSome result (λ at. at + 192 ≤ memory_length policy.now) }
-{
-    policy.cache(user)
-}
 
 // What the cache at a place has for a query with these versions.
 pub(crate) fn look_up(memory: &[u64], at: usize, query: Query, versions: &[u64]) -> Option<Kept>
@@ -33,19 +23,4 @@ pub(crate) fn keep(memory: &mut [u64], at: usize, query: Query, versions: &[u64]
     ensures { memory.new ≡ with_cache at (keep_in query versions.now kept (cache_part at memory.old)) memory.old }
 {
     cache::keep(&mut memory[at..at + SIZE], query, versions, kept);
-}
-
-// What is kept of an answer.
-pub(crate) fn kept_of(answered: Answered) -> Kept
-    ensures { result ≡ kept_of answered }
-{
-    match answered {
-        Answered::Rows { .. } => Kept::Rows,
-        Answered::Total { rows, amount } => Kept::Total {
-            rows: rows as u64,
-            amount,
-        },
-        Answered::Shared { .. } => Kept::Shared,
-        Answered::NotSeen => Kept::NotSeen,
-    }
 }

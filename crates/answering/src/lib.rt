@@ -4,13 +4,15 @@
 ghost use Rattle.std.specs.Prelude.{◌≡◌, ◌+◌, ◌≤◌, length};
 ghost use Rattle.policy.specs.Access.{memory_length};
 ghost use Rattle.policy.specs.Views.{view_of};
-ghost use Rattle.cache.specs.Places.{look_up};
-ghost use Rattle.answering.specs.Asked.{versions_in, cache_part, kept_by, worked_out, worked_row, refusal_of, found, told_by, memory_by, row_by, asked_told, asked_memory, asked_row};
+ghost use Rattle.answering.specs.Asked.{versions_in, found, told_by, memory_by, row_by, asked_told, asked_memory, asked_row};
 
-use policy::{Contract, Policy, Refusal};
+use held::Held;
+use policy::{Policy, Refusal};
 use query::{Outcome, Query};
+use worked::Asked;
 
 mod cached;
+mod held;
 pub mod laws;
 mod places;
 mod views;
@@ -33,99 +35,36 @@ pub fn ask(
     if place < policy.memory_length() {
         return Err(Refusal::OutOfBounds { place });
     }
-    let Some(contract) = policy.contract(user) else {
-        return Err(Refusal::NoUser { user });
-    };
-    let Some(at) = cached::cache_in(policy, user) else {
-        return Err(Refusal::NoUser { user });
-    };
-    if let Some(refusal) = refused_for(policy, memory, contract, query, row.len()) {
-        return Err(refusal);
-    }
-    found_or_not(policy, memory, row, contract, at, query)
+    let contract = policy.contract(user).ok_or(Refusal::NoUser { user })?;
+    let at = policy.cache(user).ok_or(Refusal::NoUser { user })?;
+    let asked = Asked { contract, query };
+    Held { policy, memory }.check(&asked, row.len())?;
+    found_or_not(policy, memory, row, &asked, at)
 }
 
-// A row that is too short, then what is out of bounds in the view; neither is looked at where a compartment isn't seen.
-fn refused_for(
-    policy: &Policy,
-    memory: &[u64],
-    contract: &Contract,
-    query: Query,
-    lent: usize,
-) -> Option<Refusal>
-    requires { memory_length policy.now ≤ length memory.now }
-    ensures { result ≡ refusal_of policy.now memory.now lent (view_of contract.now) query }
-{
-    let needed = query::needed(policy, contract, query)?;
-    if lent < needed {
-        return Some(Refusal::ShortRow { length: lent });
-    }
-    let place = views::lowest_fault(policy, memory, contract.view())?;
-    Some(Refusal::OutOfBounds { place })
-}
-
-// Answers by the versions of what the user sees.
+// Answers from the cache, with no row examined and memory as it was; or works it out and keeps it.
 fn found_or_not(
     policy: &Policy,
     memory: &mut [u64],
     row: &mut [u64],
-    contract: &Contract,
+    asked: &Asked,
     at: usize,
-    query: Query,
 ) -> Result<Outcome, Refusal>
     requires long { memory_length policy.now ≤ length memory.old }
     requires cache { at + 192 ≤ length memory.old }
-    ensures told { result ≡ told_by policy.now memory.old (view_of contract.now) query (length row.old) (found policy.now memory.old (view_of contract.now) at query) }
-    ensures after { memory.new ≡ memory_by policy.now memory.old (view_of contract.now) (versions_in policy.now memory.old (view_of contract.now)) at query (length row.old) (found policy.now memory.old (view_of contract.now) at query) }
-    ensures lent { row.new ≡ row_by policy.now memory.old (view_of contract.now) query row.old (found policy.now memory.old (view_of contract.now) at query) }
+    ensures told { result ≡ told_by policy.now memory.old (view_of asked.now.contract.now) asked.now.query (length row.old) (found policy.now memory.old (view_of asked.now.contract.now) at asked.now.query) }
+    ensures after { memory.new ≡ memory_by policy.now memory.old (view_of asked.now.contract.now) (versions_in policy.now memory.old (view_of asked.now.contract.now)) at asked.now.query (length row.old) (found policy.now memory.old (view_of asked.now.contract.now) at asked.now.query) }
+    ensures lent { row.new ≡ row_by policy.now memory.old (view_of asked.now.contract.now) asked.now.query row.old (found policy.now memory.old (view_of asked.now.contract.now) at asked.now.query) }
 {
-    let view = contract.view();
+    let held = Held { policy, memory };
     let mut versions = [0; 16];
-    views::read_versions(policy, memory, view, &mut versions);
-    let versions = views::first(&versions, view.len());
-    by_versions(policy, memory, row, contract, at, query, versions)
-}
-
-// Answers from the cache, with no row examined and memory as it was; or works it out and keeps it.
-fn by_versions(
-    policy: &Policy,
-    memory: &mut [u64],
-    row: &mut [u64],
-    contract: &Contract,
-    at: usize,
-    query: Query,
-    versions: &[u64],
-) -> Result<Outcome, Refusal>
-    requires long { memory_length policy.now ≤ length memory.old }
-    requires cache { at + 192 ≤ length memory.old }
-    ensures told { result ≡ told_by policy.now memory.old (view_of contract.now) query (length row.old) (look_up query versions.now (cache_part at memory.old)) }
-    ensures after { memory.new ≡ memory_by policy.now memory.old (view_of contract.now) versions.now at query (length row.old) (look_up query versions.now (cache_part at memory.old)) }
-    ensures lent { row.new ≡ row_by policy.now memory.old (view_of contract.now) query row.old (look_up query versions.now (cache_part at memory.old)) }
-{
-    match cached::look_up(memory, at, query, versions) {
-        Some(kept) => worked::recall(policy, memory, contract, query, kept, row),
-        None => not_found(policy, memory, row, contract, at, query, versions),
+    let versions = held.read_versions(asked.contract.view(), &mut versions);
+    if let Some(kept) = cached::look_up(memory, at, asked.query, versions) {
+        return held.recall(asked, kept, row);
     }
-}
-
-// Works the answer out and keeps it.
-fn not_found(
-    policy: &Policy,
-    memory: &mut [u64],
-    row: &mut [u64],
-    contract: &Contract,
-    at: usize,
-    query: Query,
-    versions: &[u64],
-) -> Result<Outcome, Refusal>
-    requires long { memory_length policy.now ≤ length memory.old }
-    requires cache { at + 192 ≤ length memory.old }
-    ensures told { result ≡ worked_out policy.now memory.old (view_of contract.now) query (length row.old) }
-    ensures after { memory.new ≡ kept_by at query versions.now memory.old (worked_out policy.now memory.old (view_of contract.now) query (length row.old)) }
-    ensures lent { row.new ≡ worked_row policy.now memory.old (view_of contract.now) query row.old }
-{
-    let told = worked::work_out(policy, memory, contract, query, row)?;
-    cached::keep(memory, at, query, versions, cached::kept_of(told.answered));
+    let told = held.work_out(asked, row)?;
+    let kept = told.answered.into();
+    cached::keep(memory, at, asked.query, versions, kept);
     Ok(told)
 }
 
@@ -192,15 +131,8 @@ mod tests {
             return Ok(());
         };
         assert_eq!(rt; told.examined, 0);
-        assert!(rt;
-            matches!(
-                told.answered,
-                Answered::Total {
-                    rows: 2,
-                    amount: 80
-                }
-            )
-        );
+        let (rows, amount) = (2, 80);
+        assert_eq!(rt; told.answered, Answered::Total { rows, amount });
         memory[64] = 1;
         let Ok(told) = ask(&policy, &mut memory, &mut row, 0, TOTAL) else {
             assert!(rt; false);
@@ -224,8 +156,11 @@ mod tests {
         user: usize,
         query: Query,
     ) -> Result<Outcome, Refusal> {
-        let policy = policy()?;
-        ask(&policy, memory, row, user, query)
+        // With `?` the check could not build a proof.
+        match policy() {
+            Ok(policy) => ask(&policy, memory, row, user, query),
+            Err(refusal) => Err(refusal),
+        }
     }
 
     #[test]
@@ -233,11 +168,11 @@ mod tests {
         let mut memory = [0; 318];
         damage(&mut memory);
         let short = told(&mut [0; 317], &mut [], 1, TOTAL);
-        assert!(rt; matches!(short, Err(Refusal::OutOfBounds { place: 317 })));
+        assert_eq!(rt; short, Err(Refusal::OutOfBounds { place: 317 }));
         let nobody = told(&mut memory, &mut [], 1, TOTAL);
-        assert!(rt; matches!(nobody, Err(Refusal::NoUser { user: 1 })));
+        assert_eq!(rt; nobody, Err(Refusal::NoUser { user: 1 }));
         let little = told(&mut memory, &mut [0; 111], 0, TOTAL);
-        assert!(rt; matches!(little, Err(Refusal::ShortRow { length: 111 })));
+        assert_eq!(rt; little, Err(Refusal::ShortRow { length: 111 }));
     }
 
     #[test]
@@ -245,7 +180,7 @@ mod tests {
         let mut memory = [0; 318];
         damage(&mut memory);
         let damaged = told(&mut memory, &mut [0; 112], 0, TOTAL);
-        assert!(rt; matches!(damaged, Err(Refusal::OutOfBounds { place: 1 })));
+        assert_eq!(rt; damaged, Err(Refusal::OutOfBounds { place: 1 }));
         assert_eq!(rt; memory[126], 0);
     }
 
@@ -257,7 +192,7 @@ mod tests {
             assert!(rt; false);
             return Ok(());
         };
-        assert!(rt; matches!(outcome.answered, Answered::NotSeen));
+        assert_eq!(rt; outcome.answered, Answered::NotSeen);
         assert_eq!(rt; memory[126], 3);
         Ok(())
     }

@@ -7,6 +7,7 @@ ghost use Rattle.cache.specs.Kept.{kept_from};
 ghost use Rattle.cache.specs.Places.{query_numbers, key_numbers, kept_numbers, kept_of, kept_in, found_in, look_up, moved_back, keep_in};
 
 use query::{Answered, Query};
+use rows::KeyRange;
 
 pub mod laws;
 
@@ -136,13 +137,13 @@ fn read_place(place: &[u64; PLACE], key: &[u64; KEY]) -> Option<Kept>
 fn query_numbers(query: Query) -> [u64; QUERY]
     ensures { result ≡ query_numbers query }
 {
-    match query {
-        Query::Rows { range } => [1, range.from as u64, range.to as u64, 0, 0],
-        Query::Total { range } => [2, range.from as u64, range.to as u64, 0, 0],
-        Query::Shared { a, b, range } => {
-            [3, range.from as u64, range.to as u64, a as u64, b as u64]
-        }
-    }
+    let KeyRange { from, to } = query.range();
+    let (kind, a, b) = match query {
+        Query::Rows { .. } => (1, 0, 0),
+        Query::Total { .. } => (2, 0, 0),
+        Query::Shared { a, b, .. } => (3, a as u64, b as u64),
+    };
+    [kind, u64::from(from), u64::from(to), a, b]
 }
 
 // The query and the versions, with 0 in what is left of sixteen.
@@ -159,7 +160,6 @@ fn key_numbers(query: Query, versions: &[u64]) -> [u64; KEY]
 #[cfg(test)]
 mod tests {
     use super::*;
-    use rows::KeyRange;
 
     fn rows(key: u32) -> Query {
         let range = KeyRange { from: key, to: key };

@@ -10,6 +10,7 @@ use std::cmp::Ordering;
 pub mod laws;
 
 // Rows in memory: where they begin, and how many they are.
+// By place and number, not as a slice: one lent memory holds the rows that are read and those that are written.
 #[derive(Clone, Copy, PartialEq, Eq, Debug)]
 pub struct Part {
     pub start: usize,

@@ -3,7 +3,7 @@ ghost use Rattle.std.specs.Prelude.{◌≡◌, ◌≤◌, min, ◌++◌, length,
 ghost use Rattle.notation.specs.Bytes.{policy_bytes, request_bytes, requests_bytes, trace_bytes};
 ghost use Rattle.notation.specs.Lines.{single_numbers};
 ghost use Rattle.notation.specs.Said.{said_of};
-ghost use Rattle.wire.specs.Written.{low_bytes, written};
+ghost use Rattle.wire.specs.Written.{written};
 
 use crate::Trace;
 use crate::stages::single_numbers;
@@ -19,24 +19,13 @@ fn singles_there(numbers: &[u64]) -> usize
     single_numbers(numbers).min(numbers.len())
 }
 
-// Writes a number in so many bytes, low byte first.
-fn push_number(bytes: &mut Vec<u8>, width: usize, number: u64) -> Result<(), AllocError>
-    ensures { OnOk result (bytes.new.items ≡ bytes.old.items ++ low_bytes width number) }
-{
-    let mut rest = number;
-    for _ in 0..width {
-        bytes.push((rest % 256) as u8)?;
-        rest /= 256;
-    }
-    Ok(())
-}
-
-// Writes numbers in so many bytes each.
+// Writes numbers in so many bytes each, low byte first.
 fn push_numbers(bytes: &mut Vec<u8>, width: usize, numbers: &[u64]) -> Result<(), AllocError>
+    requires { width ≤ 8 }
     ensures { OnOk result (bytes.new.items ≡ bytes.old.items ++ written width numbers.now) }
 {
     for number in numbers {
-        push_number(bytes, width, *number)?;
+        bytes.extend_from_slice(&number.to_le_bytes()[..width])?;
     }
     Ok(())
 }

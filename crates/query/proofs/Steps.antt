@@ -2,6 +2,7 @@
 use Rattle.std.proofs.Common.{◌≡◌, ℕ, ◌+◌, ◌/◌, ◌<◌, List, [], ◌∷◌, ◌++◌, map, length, get_or, take, drop, set, sym, refl, ap, ◌∙◌, arith, Bor}
 use borrow.Rule.Slice.PartMut.{put_mid}
 use Rattle.std.proofs.lemmas.List.{drop_more, drop-map, drop-drop, take-map, map_more, take_at, drop_at, set_at, append_assoc, append-nil, length-append, length-map, length-take-le}
+use Rattle.std.proofs.lemmas.Grind.{flat_map-append}
 use Rattle.rows.specs.declared.KeyRange.{KeyRange}
 use Rattle.rows.specs.Numbers.{range_part}
 use Rattle.query.specs.Numbers.{count, counts, count_in, cut, lengths}
@@ -29,8 +30,7 @@ module _ (range : KeyRange) where
   count_push (q ∷ ps) p = let i = count_push ps p in omega arith
 
   pub cut_push : (ps : List (List ℕ)) (p : List ℕ) → cut range (ps ++ (p ∷ [])) ≡ cut range ps ++ range_part range p
-  cut_push [] p = simp append-nil
-  cut_push (q ∷ ps) p = rw (cut_push ps p) (sym (append_assoc (range_part range q) (cut range ps) (range_part range p)))
+  cut_push ps p = flat_map-append (range_part range) ps (p ∷ []) ∙ simp append-nil
 
 -- a number written behind some others
 pub head_push : (hs zs : List ℕ) (i n : ℕ) → length hs ≡ i → i < length zs → set (hs ++ drop i zs) i n ≡ (hs ++ (n ∷ [])) ++ drop (i + 1) zs

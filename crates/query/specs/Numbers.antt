@@ -1,5 +1,6 @@
 -- What a query makes of the parts that it is lent and of the answer row, for every content, of rows that rise or not.
 use Rattle.std.specs.Prelude.{ℕ, ◌+◌, ◌/◌, ◌%◌, ◌^◌, Bool, cond, ◌&&◌, List, [], ◌∷◌, ◌++◌, map, length, take, drop, replicate, Some, None, Option, nat_le}
+use Rattle.std.specs.List.{flat_map}
 use Rattle.rows.specs.declared.Row.{Row}
 use Rattle.rows.specs.declared.KeyRange.{KeyRange}
 use Rattle.rows.specs.Rows.{sum}
@@ -30,8 +31,7 @@ amount_in range (p ∷ ps) = sum (rows_of (range_part range p)) + amount_in rang
 
 -- the rows of all parts that lie in the range, one part behind the other
 abbrev pub cut : KeyRange → List (List ℕ) → List ℕ
-cut range [] = []
-cut range (p ∷ ps) = range_part range p ++ cut range ps
+cut range parts = flat_map (range_part range) parts
 
 -- the rows of one part whose keys are in the other, by one pass over both
 abbrev pub common : List ℕ → List ℕ → List Row

@@ -66,7 +66,6 @@ pub struct Outcome {
 mod tests {
     use super::*;
     use policy::Policy;
-    use std::test::Fail;
 
     const ALL: KeyRange = KeyRange {
         from: 0,
@@ -77,18 +76,12 @@ mod tests {
 
     // One user, who sees compartments 2 and 0 of three.
     #[test]
-    fn looks_at_what_is_seen(rt: HostRuntime) -> Result<(), Fail> {
+    fn looks_at_what_is_seen(rt: HostRuntime) {
         let numbers = [
             1, 3, 2, 2, 0, 0, 0, 0, 0, 0, 0, 0, 0, 0, 0, 0, 0, 0, 0, 2, 10, 20, 30,
         ];
-        let Ok(policy) = Policy::read(&numbers, 4096) else {
-            assert!(rt; false);
-            return Ok(());
-        };
-        let Some(contract) = policy.contract(0) else {
-            assert!(rt; false);
-            return Ok(());
-        };
+        let policy = Policy::read(&numbers, 4096).expect(&rt, "a policy");
+        let contract = policy.contract(0).expect(&rt, "a user");
         let rows = Query::Rows { range: ALL };
         assert!(rt; looks_at(contract, rows).compartments() == [2, 0].as_slice());
         assert_eq!(rt; needed(&policy, contract, rows), Some(112));
@@ -100,50 +93,45 @@ mod tests {
         let unseen = Query::Shared { a, b, range };
         assert!(rt; looks_at(contract, unseen).compartments().is_empty());
         assert_eq!(rt; needed(&policy, contract, unseen), None);
-        Ok(())
+        assert_eq!(rt; unseen.range(), ALL);
     }
 
     #[test]
-    fn tells_rows(rt: HostRuntime) -> Result<(), Fail> {
+    fn tells_rows(rt: HostRuntime) {
         let a = [1, 10, 5, 50];
         let b = [2, 20, 5, 51, 9, 90];
         let parts = [&a[0..4], &b[0..6]];
         let mut row = [7; 43];
         let query = Query::Rows { range: SOME };
-        assert!(rt; answer(query, &parts, &mut row[0..41]).is_none());
+        assert_eq!(rt; answer(query, &parts, &mut row[0..41]), None);
         assert!(rt; row == [7; 43]);
-        let Some(told) = answer(query, &parts, &mut row) else {
-            assert!(rt; false);
-            return Ok(());
+        let told = Outcome {
+            answered: Answered::Rows { compartments: 2 },
+            examined: 3,
         };
-        assert_eq!(rt; told.examined, 3);
+        assert_eq!(rt; answer(query, &parts, &mut row), Some(told));
         assert!(rt; row[0..3] == [1, 2, 0]);
         assert!(rt; row[31..43] == [0, 5, 50, 2, 20, 5, 51, 7, 7, 7, 7, 7]);
-        Ok(())
     }
 
     #[test]
-    fn adds_up(rt: HostRuntime) -> Result<(), Fail> {
+    fn adds_up(rt: HostRuntime) {
         let a = [1, 10, 5, 50];
         let mut row = [7; 40];
         let query = Query::Total { range: SOME };
-        let Some(told) = answer(query, &[&a, &a], &mut row) else {
-            assert!(rt; false);
-            return Ok(());
+        let told = Outcome {
+            answered: Answered::Total {
+                rows: 2,
+                amount: 100,
+            },
+            examined: 2,
         };
-        let Answered::Total { rows, amount } = told.answered else {
-            assert!(rt; false);
-            return Ok(());
-        };
-        assert_eq!(rt; rows, 2);
-        assert_eq!(rt; amount, 100);
-        assert_eq!(rt; told.examined, 2);
+        assert_eq!(rt; answer(query, &[&a, &a], &mut row), Some(told));
         assert!(rt; row == [7; 40]);
-        Ok(())
     }
 
     #[test]
-    fn compares(rt: HostRuntime) -> Result<(), Fail> {
+    fn compares(rt: HostRuntime) {
         let a = [1, 10, 5, 50];
         let b = [2, 20, 5, 51, 9, 90];
         let parts = [&a[0..4], &b[0..6]];
@@ -153,19 +141,17 @@ mod tests {
             b: 1,
             range: ALL,
         };
-        let Some(told) = answer(query, &parts, &mut row) else {
-            assert!(rt; false);
-            return Ok(());
+        let told = Outcome {
+            answered: Answered::Shared { rows: 1 },
+            examined: 5,
         };
-        assert_eq!(rt; told.examined, 5);
+        assert_eq!(rt; answer(query, &parts, &mut row), Some(told));
         assert_eq!(rt; row[0], 1);
         assert!(rt; row[31..36] == [0, 5, 50, 7, 7]);
-        let Some(told) = answer(query, &[], &mut []) else {
-            assert!(rt; false);
-            return Ok(());
+        let told = Outcome {
+            answered: Answered::NotSeen,
+            examined: 0,
         };
-        assert_eq!(rt; told.examined, 0);
-        assert!(rt; matches!(told.answered, Answered::NotSeen));
-        Ok(())
+        assert_eq!(rt; answer(query, &[], &mut []), Some(told));
     }
 }

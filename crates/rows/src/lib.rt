@@ -88,6 +88,7 @@ pub fn find(rows: &[u64], key: u64) -> Option<usize>
 
 // Puts a row among the first `count` of `part`, in place of the one with its key, and says how many there are then;
 // where one more has no place, or `count` is more than the part holds, nothing changes.
+// The count is passed and handed back, not kept in a struct: it lies in lent memory, in front of the rows.
 pub fn put(part: &mut [u64], count: usize, row: Row) -> Option<usize>
     ensures told { result ≡ put_count count row part.old }
     ensures after { part.new ≡ put_into count row part.old }
@@ -195,6 +196,7 @@ fn merge(a: &[u64], b: &[u64], out: &mut [u64]) -> usize
     ensures after { out.new ≡ in_front (merged (rows_of a.now) (rows_of b.now)) out.old }
     ensures within { result ≤ length a.now / 2 }
 {
+    // Counted by hand, since the number is what is returned.
     let mut written = 0;
     for row in SharedRows::new(a, b) {
         set_row(out, written, *row);
@@ -237,10 +239,11 @@ impl<'a> Iterator for SharedRows<'a> {
     ghost remaining = { item_count shared_rows };
 
     fn next(&mut self) -> Option<&'a [u64; 2]> {
-        while let Some((row, rows)) = self.rows.split_first() {
+        while let [row, rows @ ..] = self.rows {
+            let [key, _] = row;
             self.rows = rows;
-            self.others = skip(self.others, row[0]);
-            if first_is(self.others, row[0]) {
+            self.others = skip(self.others, *key);
+            if first_is(self.others, *key) {
                 return Some(row);
             }
         }
@@ -252,7 +255,7 @@ impl<'a> Iterator for SharedRows<'a> {
 fn skip(rows: &[[u64; 2]], key: u64) -> &[[u64; 2]]
     ensures { map pair_row result.now ≡ skipped key (map pair_row rows.now) }
 {
-    let smaller = rows.iter().take_while(|row| row[0] < key).count();
+    let smaller = rows.iter().take_while(|[first, _]| *first < key).count();
     &rows[smaller..]
 }
 
@@ -260,7 +263,7 @@ fn skip(rows: &[[u64; 2]], key: u64) -> &[[u64; 2]]
 fn first_is(rows: &[[u64; 2]], key: u64) -> bool
     ensures { result ≡ first_is key (map pair_row rows.now) }
 {
-    rows.first().is_some_and(|row| row[0] == key)
+    rows.first().is_some_and(|[first, _]| *first == key)
 }
 
 #[cfg(test)]

@@ -1,16 +1,22 @@
 // The store: requests on lent memory, as a policy allows them.
 #![tactic(auto)]
 
-ghost use Rattle.std.specs.Prelude.{◌≡◌, length};
+ghost use Rattle.std.specs.Prelude.{◌≡◌, ◌≤◌, length, IfOk};
+ghost use Rattle.std.specs.Option.{ok_or};
+ghost use Rattle.policy.specs.Access.{written_at};
+ghost use Rattle.policy.specs.declared.refusal.Refusal.TheVariants.{NoUser};
 ghost use Rattle.answering.specs.Asked.{asked_told, asked_memory, asked_row};
-ghost use Rattle.store.specs.Calls.{opened_told, opened, wrote_told, wrote, deleted_told, deleted, copied_told, copied};
+ghost use Rattle.store.specs.Calls.{both, opened_told, opened, wrote_told, wrote, deleted_told, deleted, copied_told, copied};
+ghost use Rattle.store.specs.Memory.{end};
 ghost use Rattle.store.specs.Served.{served_told, served_memory, served_row};
 
 mod copying;
 pub mod laws;
+mod part;
 mod reply;
 
-use policy::{Policy, Refusal};
+use part::end_of;
+use policy::{Policy, Refusal, Written};
 use query::{Outcome, Query};
 pub use reply::Reply;
 use request::Request;
@@ -21,10 +27,7 @@ pub fn open(policy: &Policy, memory: &mut [u64]) -> Result<(), Refusal>
     ensures told { result ≡ opened_told policy.now memory.old }
     ensures after { memory.new ≡ opened policy.now memory.old }
 {
-    let long = memory.len();
-    if long < policy.memory_length() {
-        return Err(Refusal::OutOfBounds { place: long });
-    }
+    check_length(policy, memory)?;
     memory[0..policy.memory_length()].fill(0);
     Ok(())
 }
@@ -34,15 +37,9 @@ pub fn write(policy: &Policy, memory: &mut [u64], user: usize, row: Row) -> Resu
     ensures told { result ≡ wrote_told policy.now user row memory.old }
     ensures after { memory.new ≡ wrote policy.now user row memory.old }
 {
-    let long = memory.len();
-    if long < policy.memory_length() {
-        return Err(Refusal::OutOfBounds { place: long });
-    }
-    let Some(written) = policy.written(user) else {
-        return Err(Refusal::NoUser { user });
-    };
+    let written = written_in(policy, memory, user)?;
     let start = written.place.start;
-    let end = start + (2 + 2 * written.place.capacity);
+    let end = end_of(written.place);
     compartment::write(&mut memory[start..end], written, row)
 }
 
@@ -51,16 +48,30 @@ pub fn delete(policy: &Policy, memory: &mut [u64], user: usize, key: u32) -> Res
     ensures told { result ≡ deleted_told policy.now user key memory.old }
     ensures after { memory.new ≡ deleted policy.now user key memory.old }
 {
-    let long = memory.len();
-    if long < policy.memory_length() {
-        return Err(Refusal::OutOfBounds { place: long });
-    }
-    let Some(written) = policy.written(user) else {
-        return Err(Refusal::NoUser { user });
-    };
+    let written = written_in(policy, memory, user)?;
     let start = written.place.start;
-    let end = start + (2 + 2 * written.place.capacity);
+    let end = end_of(written.place);
     compartment::delete(&mut memory[start..end], written, key)
+}
+
+// Memory must be as long as the policy asks for.
+fn check_length(policy: &Policy, memory: &[u64]) -> Result<(), Refusal>
+    ensures { result ≡ opened_told policy.now memory.now }
+{
+    let place = memory.len();
+    if place < policy.memory_length() {
+        return Err(Refusal::OutOfBounds { place });
+    }
+    Ok(())
+}
+
+// The compartment in which the user writes, within memory.
+fn written_in(policy: &Policy, memory: &[u64], user: usize) -> Result<Written, Refusal>
+    ensures told { result ≡ both (opened_told policy.now memory.now) (λ x. ok_or (written_at policy.now user) (NoUser user)) }
+    ensures within { IfOk result (λ w. end w.place ≤ length memory.now) }
+{
+    check_length(policy, memory)?;
+    policy.written(user).ok_or(Refusal::NoUser { user })
 }
 
 // The rows of a range of a compartment that the user sees come to where the user writes, one by one: all of them, or none.
@@ -74,19 +85,13 @@ pub fn copy(
     ensures told { result ≡ copied_told policy.now user compartment range memory.old }
     ensures after { memory.new ≡ copied policy.now user compartment range memory.old }
 {
-    let long = memory.len();
-    if long < policy.memory_length() {
-        return Err(Refusal::OutOfBounds { place: long });
-    }
+    check_length(policy, memory)?;
+    let refusal = Refusal::NoFlow { compartment };
     if !policy.may_copy(user, compartment as u64) {
-        return Err(Refusal::NoFlow { compartment });
+        return Err(refusal);
     }
-    let Some(written) = policy.written(user) else {
-        return Err(Refusal::NoFlow { compartment });
-    };
-    let Some(from) = policy.place(compartment as u64) else {
-        return Err(Refusal::NoFlow { compartment });
-    };
+    let written = policy.written(user).ok_or(refusal)?;
+    let from = policy.place(compartment as u64).ok_or(refusal)?;
     if written.compartment == compartment {
         return copying::into_itself(memory, written);
     }

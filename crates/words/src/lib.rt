@@ -25,8 +25,7 @@ use std::fmt::Write;
 pub fn push_done_line(text: &mut String, user: usize) -> Result<(), AllocError>
     ensures { OnOk result (string_bytes text.new ≡ string_bytes text.old ++ line user done) }
 {
-    let words = "done";
-    writeln!(text, "{user}: {words}")
+    writeln!(text, "{user}: done")
 }
 
 // The request is refused.

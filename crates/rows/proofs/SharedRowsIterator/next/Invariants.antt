@@ -3,8 +3,8 @@ use Rattle.std.proofs.Common.{◌≡◌, length}
 use Rattle.rows.specs.Passes.{shared_rows}
 use Rattle.rows.proofs.SharedRowsIterator.next.Given as goal
 
-abbrev pub invariant-loop-row : goal.invariant-loop-row
-invariant-loop-row l = shared_rows l.self ≡ shared_rows l.initial.self
+abbrev pub invariant-loop-self : goal.invariant-loop-self
+invariant-loop-self l = shared_rows l.self ≡ shared_rows l.initial.self
 
-abbrev pub decreases-loop-row : goal.decreases-loop-row
-decreases-loop-row l = length l.self.rows.now
+abbrev pub decreases-loop-self : goal.decreases-loop-self
+decreases-loop-self l = length l.self.rows.now

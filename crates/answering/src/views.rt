@@ -34,6 +34,7 @@ impl<'a> Held<'a> {
         requires { length compartments.now ≤ length parts.old }
         ensures { map (λ x. x.now) (take (length compartments.now) parts.new) ≡ parts_in self.now.policy.now self.now.memory.now compartments.now }
     {
+        // By index, as above.
         for (i, compartment) in compartments.iter().enumerate() {
             parts[i] = self.rows_at(*compartment);
         }

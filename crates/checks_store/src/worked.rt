@@ -71,7 +71,8 @@ fn cut_at_each_byte(rt: HostRuntime) -> Result<(), Fail> {
     for cut in 0..=WORKED.len() {
         let played = playback::play(rt.alloc(), &WORKED[0..cut])?;
         let (told, refused) = expected(cut);
-        assert_eq!(rt; played.text.as_str().lines().count(), told);
+        let ends = played.text.as_str().bytes().filter(|byte| *byte == b'\n');
+        assert_eq!(rt; ends.count(), told);
         assert!(rt; played.refused == refused);
     }
     Ok(())

@@ -37,6 +37,8 @@ pub fn rows_of(part: &[u64], count: usize) -> &[u64]
     }
 }
 
+// In what follows `written` says what refusals name; how many rows there is room for, the part itself says.
+
 // Writes a row, in place of the one with its key, and raises the version; a refusal changes nothing.
 pub fn write(part: &mut [u64], written: Written, row: Row) -> Result<(), Refusal>
     ensures told { result ≡ write_told written.place.start written.compartment row part.old }

@@ -4,7 +4,7 @@ ghost use Rattle.policy.specs.Rules.{flows};
 ghost use Rattle.policy.specs.Access.{contracts_of, places_of, rules_of, contract_at, place_at, written_at, Inside, cache_at, may_flow, may_see, may_copy, memory_length, length_told};
 ghost use Rattle.std.specs.Option.{option_map};
 
-use super::{Contract, Place, Policy, Refusal, Written};
+use super::{CACHE, Contract, Place, Policy, Refusal, Written};
 
 impl Policy {
     // The contracts of all users, by their numbers.
@@ -46,6 +46,7 @@ impl Policy {
     pub fn may_copy(&self, user: usize, compartment: u64) -> bool
         ensures { result ≡ may_copy (rules_of self.now) user compartment }
     {
+        // Within a closure of `is_some_and` the proof of what `flow` requires didn't close.
         let Some(contract) = self.contract(user) else {
             return false;
         };
@@ -94,14 +95,14 @@ impl Policy {
     pub fn cache(&self, user: usize) -> Option<usize>
         ensures { result ≡ cache_at self.now user }
     {
-        self.has_user(user).then(|| self.caches + 192 * user)
+        self.has_user(user).then(|| self.caches + CACHE * user)
     }
 
     // How long memory must be.
     pub fn memory_length(&self) -> usize
         ensures { result ≡ memory_length self.now }
     {
-        self.caches + 192 * self.users
+        self.caches + CACHE * self.users
     }
 
     // Memory must be as long as that.

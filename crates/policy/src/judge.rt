@@ -6,14 +6,16 @@ ghost use Rattle.policy.specs.Views.{valid};
 
 use super::{Contract, Refusal};
 use crate::numbers::Numbers;
+use crate::sizes::{COMPARTMENTS, USERS, user_at};
 
 // Hands on the contracts of all users, or leaves with the lowest user whose view may not stand.
-pub(crate) fn contracts(numbers: &Numbers) -> Result<[Contract; 32], Refusal>
+pub(crate) fn contracts(numbers: &Numbers) -> Result<[Contract; USERS], Refusal>
     ensures refused { why result ≡ bad numbers.now.all.now }
     ensures stand { IfOk result (λ cs. Stand numbers.now.all.now cs) }
 {
     let contracts = Contract::of_users(numbers);
     let all = &contracts[..];
+    // A `map_or` with `Ok` and `Err` would say no more than this match.
     match bad_view(&all[..numbers.users()], numbers.compartments()) {
         Some(user) => Err(Refusal::BadView { user }),
         None => Ok(contracts),
@@ -33,14 +35,14 @@ fn bad_view(contracts: &[Contract], compartments: u64) -> Option<usize>
 pub(crate) fn lowest_fault(numbers: &[u64], most: u64) -> Option<usize>
     ensures { result ≡ first (at_fault most numbers.now) 0 (places numbers.now) }
 {
-    if !has_count(numbers, 0, 32) {
+    if !has_count(numbers, 0, USERS as u64) {
         return Some(0);
     }
-    if !has_count(numbers, 1, 16) {
+    if !has_count(numbers, 1, COMPARTMENTS as u64) {
         return Some(1);
     }
     let users = numbers[0] as usize;
-    let end = 2 + 18 * users + numbers[1] as usize;
+    let end = user_at(users) + numbers[1] as usize;
     Counted {
         numbers,
         users,
@@ -88,10 +90,10 @@ impl Counted<'_> {
         ensures { result ≡ within self.now.most self.now.users place n }
     {
         let high = match place {
-            0 => 32,
-            1 => 16,
-            _ if place >= 2 + 18 * self.users => self.most,
-            _ if (place - 2) % 18 == 0 => 16,
+            0 => USERS as u64,
+            1 => COMPARTMENTS as u64,
+            _ if place >= user_at(self.users) => self.most,
+            _ if (place - 2) % 18 == 0 => COMPARTMENTS as u64,
             _ => return true,
         };
         (1..=high).contains(&n)

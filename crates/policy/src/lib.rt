@@ -14,6 +14,7 @@ mod numbers;
 mod place;
 mod read;
 mod refusal;
+mod sizes;
 mod tables;
 
 pub use array_list::ArrayList;
@@ -21,16 +22,18 @@ pub use contract::Contract;
 pub use contract::judge::is_view;
 pub use place::{Place, VERSION_LIMIT, Written};
 pub use refusal::Refusal;
+pub use sizes::{CACHE, COMPARTMENTS, USERS};
 
 // A policy that was judged, with all that a request asks of it worked out.
 #[derive(Clone, Copy)]
 pub struct Policy {
-    // The first `users` contracts and the first `compartments` places count. They are no `ArrayList`s, since the promises
-    // of the crates above name the two counts.
+    // The first `users` contracts and the first `compartments` places count. They are no `ArrayList`s: the promises of the
+    // crates above name the two counts. Two lists with the counts as ghost fields were tried: that needs a Model, and with
+    // one the law that every policy is valid no longer has the facts of the fields.
     users: usize,
     compartments: usize,
-    contracts: [Contract; 32],
-    places: [Place; 16],
+    contracts: [Contract; USERS],
+    places: [Place; COMPARTMENTS],
     // Where the caches begin, behind the compartments.
     caches: usize,
     // Whether rows may flow from a to b, at 16 * a + b.

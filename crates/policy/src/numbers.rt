@@ -5,6 +5,7 @@ ghost use Rattle.policy.specs.Read.{why};
 
 use super::Refusal;
 use crate::judge::lowest_fault;
+use crate::sizes::user_at;
 
 #[derive(Clone, Copy)]
 pub(crate) struct Numbers<'a> {
@@ -19,6 +20,7 @@ impl<'a> Numbers<'a> {
         ensures refused { why result ≡ fault most numbers.now }
         ensures same { IfOk result (λ n. n.all.now ≡ numbers.now) }
     {
+        // A `map_or` with `Ok` and `Err` would say no more than this match.
         match lowest_fault(numbers, most) {
             Some(place) => Err(Refusal::OutOfBounds { place }),
             None => Ok(Numbers { all: numbers }),
@@ -42,7 +44,7 @@ impl<'a> Numbers<'a> {
         ensures { result.now ≡ take (compartments_in self.now.all.now) (drop (user_at (users_in self.now.all.now)) self.now.all.now) }
     {
         let numbers = self.all;
-        let at = 2 + 18 * self.users();
+        let at = user_at(self.users());
         &numbers[at..at + self.compartments() as usize]
     }
 }

@@ -3,7 +3,7 @@ ghost use Rattle.std.specs.Prelude.{◌≡◌, min, IfOk};
 ghost use Rattle.policy.specs.Numbers.{judged};
 ghost use Rattle.policy.specs.Read.{Stand, Reads, why};
 
-use super::{Contract, Place, Policy, Refusal, judge, tables};
+use super::{COMPARTMENTS, Contract, Place, Policy, Refusal, USERS, judge, tables};
 use crate::numbers::Numbers;
 
 impl Policy {
@@ -18,7 +18,7 @@ impl Policy {
     }
 
     // The policy of numbers and contracts that were judged, with its tables.
-    fn assemble(numbers: &Numbers, contracts: [Contract; 32]) -> Policy
+    fn assemble(numbers: &Numbers, contracts: [Contract; USERS]) -> Policy
         requires { Stand numbers.now.all.now contracts }
         ensures { Reads numbers.now.all.now result }
     {
@@ -26,7 +26,7 @@ impl Policy {
         let mut places = [Place {
             start: 0,
             capacity: 0,
-        }; 16];
+        }; COMPARTMENTS];
         let caches = tables::place(&mut places, numbers.capacities());
         let all = &contracts[..];
         let flows = tables::flows(&all[..users]);

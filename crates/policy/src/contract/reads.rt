@@ -6,6 +6,7 @@ ghost use Rattle.policy.specs.Read.{Says, Say};
 use super::Contract;
 use crate::ArrayList;
 use crate::numbers::Numbers;
+use crate::sizes::{USERS, user_at};
 use std::array::from_fn;
 
 impl Contract {
@@ -19,7 +20,7 @@ impl Contract {
                 writes: 0,
             };
         }
-        let at = 2 + 18 * user;
+        let at = user_at(user);
         let all = numbers.all;
         let seen = all[at] as usize;
         Contract {
@@ -29,7 +30,7 @@ impl Contract {
     }
 
     // The contracts of all users.
-    pub(crate) fn of_users(numbers: &Numbers) -> [Contract; 32]
+    pub(crate) fn of_users(numbers: &Numbers) -> [Contract; USERS]
         ensures long { length result ≡ 32 }
         ensures say { Say numbers.now.all.now (users_in numbers.now.all.now) result }
     {

@@ -34,7 +34,7 @@ impl Refusal {
             | Refusal::ShortRow { length: n }
             | Refusal::LastVersion { compartment: n } => n as u128,
             Refusal::NoFlow { compartment } => 32 + compartment as u128,
-            Refusal::NoRow { key } => key as u128,
+            Refusal::NoRow { key } => u128::from(key),
         }
     }
 }

@@ -5,7 +5,8 @@ ghost use Rattle.policy.specs.Views.{distinct_below, stands, valid};
 use super::Contract;
 
 impl Contract {
-    pub(crate) fn is_valid(&self, compartments: u64) -> bool
+    // Nothing twice in the view, nothing that isn't there, and the compartment written in among them.
+    pub fn is_valid(&self, compartments: u64) -> bool
         ensures { result ≡ valid compartments self.now }
     {
         is_view(self.view(), compartments, self.writes)

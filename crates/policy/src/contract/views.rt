@@ -1,11 +1,20 @@
-// A user's view: what it holds.
+// A contract of a view, and what the view holds.
 ghost use Rattle.std.specs.Prelude.{◌≡◌, ◌≤◌, length};
 ghost use Rattle.policy.specs.Rules.{has};
 ghost use Rattle.policy.specs.Views.{view_of};
 
 use super::Contract;
+use crate::ArrayList;
 
 impl Contract {
+    // Whether it may stand is judged apart.
+    pub fn new(view: ArrayList<u64, 16>, writes: u64) -> Contract
+        ensures view { view_of result ≡ view.items }
+        ensures writes { result.writes ≡ writes }
+    {
+        Contract { view, writes }
+    }
+
     // The compartments that the user sees.
     pub fn view(&self) -> &[u64]
         ensures value { result.now ≡ view_of self.now }

@@ -1,5 +1,5 @@
 -- What a policy answers: its rules, and where compartments and caches lie.
-use Rattle.std.specs.Prelude.{ℕ, ◌+◌, ◌*◌, ◌≤◌, Bool, cond, ◌&&◌, List, take, Some, None, Option, nat_lt, slice_index, slice_index_or}
+use Rattle.std.specs.Prelude.{ℕ, ◌+◌, ◌*◌, ◌≤◌, Bool, cond, ◌&&◌, List, length, take, Some, None, Ok, Err, Option, Result, nat_lt, slice_index, slice_index_or}
 use Rattle.policy.specs.Layout.{size, starts_from, end_from}
 use Rattle.policy.specs.Policies.{rules_from, capacities_in}
 use Rattle.policy.specs.Rules.{Rules, sees, flows}
@@ -8,6 +8,8 @@ use Rattle.policy.specs.declared.contract.Contract.{Contract}
 use Rattle.policy.specs.declared.place.Place.{Place}
 use Rattle.policy.specs.declared.place.Written.{Written}
 use Rattle.policy.specs.declared.Policy.{Policy}
+use Rattle.policy.specs.declared.refusal.Refusal.{Refusal}
+use Rattle.policy.specs.declared.refusal.Refusal.TheVariants.{OutOfBounds}
 
 abbrev pub contracts_of : Policy → List Contract
 contracts_of p = take p.users p.contracts
@@ -56,6 +58,10 @@ cache_at p u = cond (nat_lt u p.users) (Some (end_from 0 (capacities_of p) + 192
 
 abbrev pub memory_length : Policy → ℕ
 memory_length p = end_from 0 (capacities_of p) + 192 * p.users
+
+-- memory that is too short is refused
+abbrev pub length_told : Policy → List ℕ → Result (Unit {0}) Refusal
+length_told p memory = cond (nat_lt (length memory) (memory_length p)) (Err (OutOfBounds (length memory))) (Ok tt)
 
 -- a place lies within the memory that a policy asks for
 abbrev pub Inside : Policy → Place → Type 0

@@ -1,10 +1,10 @@
 // What requests ask of a policy: each answer is a look into a table.
-ghost use Rattle.std.specs.Prelude.{◌≡◌, ◌<◌, IfSome, nat_lt};
+ghost use Rattle.std.specs.Prelude.{◌≡◌, ◌<◌, ◌≤◌, IfOk, IfSome, length, nat_lt};
 ghost use Rattle.policy.specs.Rules.{flows};
-ghost use Rattle.policy.specs.Access.{contracts_of, places_of, rules_of, contract_at, place_at, written_at, Inside, cache_at, may_flow, may_see, may_copy, memory_length};
+ghost use Rattle.policy.specs.Access.{contracts_of, places_of, rules_of, contract_at, place_at, written_at, Inside, cache_at, may_flow, may_see, may_copy, memory_length, length_told};
 ghost use Rattle.std.specs.Option.{option_map};
 
-use super::{Contract, Place, Policy, Written};
+use super::{Contract, Place, Policy, Refusal, Written};
 
 impl Policy {
     // The contracts of all users, by their numbers.
@@ -102,5 +102,17 @@ impl Policy {
         ensures { result ≡ memory_length self.now }
     {
         self.caches + 192 * self.users
+    }
+
+    // Memory must be as long as that.
+    pub fn check_length(&self, memory: &[u64]) -> Result<(), Refusal>
+        ensures told { result ≡ length_told self.now memory.now }
+        ensures long { IfOk result (λ x. memory_length self.now ≤ length memory.now) }
+    {
+        let place = memory.len();
+        if place < self.memory_length() {
+            return Err(Refusal::OutOfBounds { place });
+        }
+        Ok(())
     }
 }

@@ -31,10 +31,7 @@ pub fn ask(
     ensures after { memory.new ≡ asked_memory policy.now memory.old (length row.old) user query }
     ensures lent { row.new ≡ asked_row policy.now memory.old row.old user query }
 {
-    let place = memory.len();
-    if place < policy.memory_length() {
-        return Err(Refusal::OutOfBounds { place });
-    }
+    policy.check_length(memory)?;
     let (contract, at) = policy
         .contract(user)
         .zip(policy.cache(user))

@@ -6,6 +6,8 @@ ghost use Rattle.answering.specs.Asked.{cache_part, with_cache};
 use cache::Kept;
 use query::Query;
 
+// That a cache lies within memory is asked of the callers: a struct with a ghost field could not hold the memory that `keep` writes.
+
 // Eight places of 24 numbers.
 const SIZE: usize = 192;
 

@@ -31,12 +31,11 @@ pub fn ask(
     ensures after { memory.new ≡ asked_memory policy.now memory.old (length row.old) user query }
     ensures lent { row.new ≡ asked_row policy.now memory.old row.old user query }
 {
-    let place = memory.len();
-    if place < policy.memory_length() {
-        return Err(Refusal::OutOfBounds { place });
-    }
-    let contract = policy.contract(user).ok_or(Refusal::NoUser { user })?;
-    let at = policy.cache(user).ok_or(Refusal::NoUser { user })?;
+    policy.check_length(memory)?;
+    let (contract, at) = policy
+        .contract(user)
+        .zip(policy.cache(user))
+        .ok_or(Refusal::NoUser { user })?;
     let asked = Asked { contract, query };
     Held { policy, memory }.check(&asked, row.len())?;
     found_or_not(policy, memory, row, &asked, at)
@@ -73,7 +72,6 @@ mod tests {
     use super::*;
     use query::Answered;
     use rows::KeyRange;
-    use std::test::Fail;
 
     // One user, who sees compartments 2 and 0 of three, with capacities 30 and 10: they begin at 64 and 0, the cache at 126.
     fn policy() -> Result<Policy, Refusal> {
@@ -112,44 +110,6 @@ mod tests {
         memory[67] = 70;
     }
 
-    #[test]
-    fn keeps_what_it_works_out(rt: HostRuntime) -> Result<(), Fail> {
-        let Ok(policy) = policy() else {
-            assert!(rt; false);
-            return Ok(());
-        };
-        let mut memory = [0; 318];
-        let mut row = [7; 112];
-        fill(&mut memory);
-        let Ok(told) = ask(&policy, &mut memory, &mut row, 0, TOTAL) else {
-            assert!(rt; false);
-            return Ok(());
-        };
-        assert_eq!(rt; told.examined, 2);
-        let Ok(told) = ask(&policy, &mut memory, &mut row, 0, TOTAL) else {
-            assert!(rt; false);
-            return Ok(());
-        };
-        assert_eq!(rt; told.examined, 0);
-        let (rows, amount) = (2, 80);
-        assert_eq!(rt; told.answered, Answered::Total { rows, amount });
-        memory[64] = 1;
-        let Ok(told) = ask(&policy, &mut memory, &mut row, 0, TOTAL) else {
-            assert!(rt; false);
-            return Ok(());
-        };
-        assert_eq!(rt; told.examined, 2);
-        assert!(rt; row == [7; 112]);
-        Ok(())
-    }
-
-    // Compartments 0 and 2 are out of bounds, and so is 1, which isn't seen.
-    fn damage(memory: &mut [u64; 318]) {
-        memory[1] = 11;
-        memory[22] = 1 << 40;
-        memory[64] = 1 << 40;
-    }
-
     fn told(
         memory: &mut [u64],
         row: &mut [u64],
@@ -161,6 +121,36 @@ mod tests {
             Ok(policy) => ask(&policy, memory, row, user, query),
             Err(refusal) => Err(refusal),
         }
+    }
+
+    // Two rows, 80 in all.
+    fn total(examined: usize) -> Result<Outcome, Refusal> {
+        Ok(Outcome {
+            answered: Answered::Total {
+                rows: 2,
+                amount: 80,
+            },
+            examined,
+        })
+    }
+
+    #[test]
+    fn keeps_what_it_works_out(rt: HostRuntime) {
+        let mut memory = [0; 318];
+        let mut row = [7; 112];
+        fill(&mut memory);
+        assert_eq!(rt; told(&mut memory, &mut row, 0, TOTAL), total(2));
+        assert_eq!(rt; told(&mut memory, &mut row, 0, TOTAL), total(0));
+        memory[64] = 1;
+        assert_eq!(rt; told(&mut memory, &mut row, 0, TOTAL), total(2));
+        assert!(rt; row == [7; 112]);
+    }
+
+    // Compartments 0 and 2 are out of bounds, and so is 1, which isn't seen.
+    fn damage(memory: &mut [u64; 318]) {
+        memory[1] = 11;
+        memory[22] = 1 << 40;
+        memory[64] = 1 << 40;
     }
 
     #[test]
@@ -185,15 +175,11 @@ mod tests {
     }
 
     #[test]
-    fn keeps_not_seen(rt: HostRuntime) -> Result<(), Fail> {
+    fn keeps_not_seen(rt: HostRuntime) {
         let mut memory = [0; 318];
         damage(&mut memory);
-        let Ok(outcome) = told(&mut memory, &mut [], 0, UNSEEN) else {
-            assert!(rt; false);
-            return Ok(());
-        };
-        assert_eq!(rt; outcome.answered, Answered::NotSeen);
+        let unseen = told(&mut memory, &mut [], 0, UNSEEN).map(|told| told.answered);
+        assert_eq!(rt; unseen, Ok(Answered::NotSeen));
         assert_eq!(rt; memory[126], 3);
-        Ok(())
     }
 }

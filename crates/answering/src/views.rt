@@ -19,6 +19,7 @@ impl<'a> Held<'a> {
     }
 
     // The lowest place in these compartments that is out of bounds.
+    // As `view.iter().filter_map(..).min()` it was tried, and no proof was found within minutes.
     pub(crate) fn lowest_fault(&self, view: &[u64]) -> Option<usize>
         ensures { result ≡ damaged self.now.policy.now self.now.memory.now view.now }
     {

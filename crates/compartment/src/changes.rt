@@ -27,7 +27,7 @@ pub(crate) trait Change: Copy {
         ensures told { result ≡ count_after self count rows.old }
         ensures after { rows.new ≡ rows_after self count rows.old };
 
-    // What a refusal tells, by the capacity.
+    // What a refusal tells, by the capacity. Each change names its own, since a default would stand for `NoRoom` where there is no row.
     fn refusal(self, capacity: usize) -> Refusal
         ensures { result ≡ refusal_told self capacity };
 
@@ -90,6 +90,14 @@ impl Change for Without {
 #[derive(Clone, Copy)]
 pub(crate) struct Refill(pub(crate) usize);
 
+impl Refill {
+    fn fitting(self, rows: &[u64]) -> Option<usize>
+        ensures { result ≡ refilled self.0 rows.now }
+    {
+        (self.0 <= rows.len() / 2).then_some(self.0)
+    }
+}
+
 impl Change for Refill {
     ghost count_after = { λ refill count rows. refilled refill.0 rows };
 
@@ -100,11 +108,11 @@ impl Change for Refill {
     ghost refused_leaves = { λ refill count rows h. refl };
 
     fn fits(self, rows: &[u64], _count: usize) -> bool {
-        self.0 <= rows.len() / 2
+        self.fitting(rows).is_some()
     }
 
     fn make(self, rows: &mut [u64], _count: usize) -> Option<usize> {
-        (self.0 <= rows.len() / 2).then_some(self.0)
+        self.fitting(rows)
     }
 
     fn refusal(self, capacity: usize) -> Refusal {

@@ -3,7 +3,7 @@ ghost use Rattle.std.specs.Prelude.{◌≡◌, ◌≤◌, length};
 ghost use Rattle.store.specs.Memory.{end};
 ghost use Rattle.store.specs.Calls.{counts_told, between_told, between_memory, itself_told, itself_memory};
 
-use crate::part::{check, raise};
+use crate::part::room_of;
 use merge::Part;
 use policy::{Place, Refusal, Written};
 use rows::KeyRange;
@@ -12,13 +12,17 @@ mod counts;
 
 pub(crate) use counts::Counts;
 
+// That a place lies within memory is asked of the callers: memory is lent to be written, and no struct with a `&mut` has a ghost field.
+
 // How many rows both compartments have, or the lowest number of theirs that is out of bounds.
 pub(crate) fn check_both(memory: &[u64], from: Place, into: Place) -> Result<Counts, Refusal>
     requires from { end from ≤ length memory.now }
     requires into { end into ≤ length memory.now }
     ensures { result ≡ counts_told from into memory.now }
 {
-    match (check(memory, from), check(memory, into)) {
+    let source = compartment::check(&memory[room_of(from)], from.start);
+    let destination = compartment::check(&memory[room_of(into)], into.start);
+    match (source, destination) {
         (Ok(source), Ok(destination)) => Ok(Counts {
             source,
             destination,
@@ -41,6 +45,7 @@ pub(crate) fn between(
     ensures after { memory.new ≡ between_memory from written range memory.old }
 {
     let counts = check_both(memory, from, written.place)?;
+    // Each by itself: a function of a place would ask in a `requires` that two more than its start is a number.
     let source = Part {
         start: from.start + 2,
         count: counts.source,
@@ -54,7 +59,8 @@ pub(crate) fn between(
         place,
     })?;
     let rows = counts.destination - copying.count + copying.total;
-    raise(memory, written, rows)?;
+    compartment::raise(&mut memory[room_of(written.place)], written, rows)?;
+    // It is always done: the plan is of two compartments apart, leaves no fewer rows than before, and there is room for them.
     merge::merge_into(memory, copying);
     Ok(())
 }
@@ -66,5 +72,5 @@ pub(crate) fn into_itself(memory: &mut [u64], written: Written) -> Result<(), Re
     ensures after { memory.new ≡ itself_memory written memory.old }
 {
     let rows = memory[written.place.start + 1] as usize;
-    raise(memory, written, rows)
+    compartment::raise(&mut memory[room_of(written.place)], written, rows)
 }

@@ -5,7 +5,6 @@ ghost use Rattle.std.specs.Prelude.{◌≡◌, ◌≤◌, length, IfOk};
 ghost use Rattle.std.specs.Option.{ok_or};
 ghost use Rattle.policy.specs.Access.{written_at};
 ghost use Rattle.policy.specs.declared.refusal.Refusal.TheVariants.{NoUser};
-ghost use Rattle.answering.specs.Asked.{asked_told, asked_memory, asked_row};
 ghost use Rattle.store.specs.Calls.{both, opened_told, opened, wrote_told, wrote, deleted_told, deleted, copied_told, copied};
 ghost use Rattle.store.specs.Memory.{end};
 ghost use Rattle.store.specs.Served.{served_told, served_memory, served_row};
@@ -15,19 +14,21 @@ pub mod laws;
 mod part;
 mod reply;
 
-use part::end_of;
+pub use answering::ask;
+use part::room_of;
 use policy::{Policy, Refusal, Written};
-use query::{Outcome, Query};
 pub use reply::Reply;
 use request::Request;
 use rows::{KeyRange, Row};
+
+// Policy and memory come apart: a struct with memory as a `&mut` has no ghost field to say that it is long enough.
 
 // Memory of the length that the policy asks for becomes empty; what lies behind is not touched.
 pub fn open(policy: &Policy, memory: &mut [u64]) -> Result<(), Refusal>
     ensures told { result ≡ opened_told policy.now memory.old }
     ensures after { memory.new ≡ opened policy.now memory.old }
 {
-    check_length(policy, memory)?;
+    policy.check_length(memory)?;
     memory[0..policy.memory_length()].fill(0);
     Ok(())
 }
@@ -38,9 +39,7 @@ pub fn write(policy: &Policy, memory: &mut [u64], user: usize, row: Row) -> Resu
     ensures after { memory.new ≡ wrote policy.now user row memory.old }
 {
     let written = written_in(policy, memory, user)?;
-    let start = written.place.start;
-    let end = end_of(written.place);
-    compartment::write(&mut memory[start..end], written, row)
+    compartment::write(&mut memory[room_of(written.place)], written, row)
 }
 
 // The row with the key goes from there.
@@ -49,20 +48,7 @@ pub fn delete(policy: &Policy, memory: &mut [u64], user: usize, key: u32) -> Res
     ensures after { memory.new ≡ deleted policy.now user key memory.old }
 {
     let written = written_in(policy, memory, user)?;
-    let start = written.place.start;
-    let end = end_of(written.place);
-    compartment::delete(&mut memory[start..end], written, key)
-}
-
-// Memory must be as long as the policy asks for.
-fn check_length(policy: &Policy, memory: &[u64]) -> Result<(), Refusal>
-    ensures { result ≡ opened_told policy.now memory.now }
-{
-    let place = memory.len();
-    if place < policy.memory_length() {
-        return Err(Refusal::OutOfBounds { place });
-    }
-    Ok(())
+    compartment::delete(&mut memory[room_of(written.place)], written, key)
 }
 
 // The compartment in which the user writes, within memory.
@@ -70,7 +56,7 @@ fn written_in(policy: &Policy, memory: &[u64], user: usize) -> Result<Written, R
     ensures told { result ≡ both (opened_told policy.now memory.now) (λ x. ok_or (written_at policy.now user) (NoUser user)) }
     ensures within { IfOk result (λ w. end w.place ≤ length memory.now) }
 {
-    check_length(policy, memory)?;
+    policy.check_length(memory)?;
     policy.written(user).ok_or(Refusal::NoUser { user })
 }
 
@@ -85,7 +71,7 @@ pub fn copy(
     ensures told { result ≡ copied_told policy.now user compartment range memory.old }
     ensures after { memory.new ≡ copied policy.now user compartment range memory.old }
 {
-    check_length(policy, memory)?;
+    policy.check_length(memory)?;
     let refusal = Refusal::NoFlow { compartment };
     if !policy.may_copy(user, compartment as u64) {
         return Err(refusal);
@@ -96,21 +82,6 @@ pub fn copy(
         return copying::into_itself(memory, written);
     }
     copying::between(memory, from, written, range)
-}
-
-// Answers a query, from the user's cache or worked out; rows of the answer come into the answer row.
-pub fn ask(
-    policy: &Policy,
-    memory: &mut [u64],
-    row: &mut [u64],
-    user: usize,
-    query: Query,
-) -> Result<Outcome, Refusal>
-    ensures told { result ≡ asked_told policy.now memory.old (length row.old) user query }
-    ensures after { memory.new ≡ asked_memory policy.now memory.old (length row.old) user query }
-    ensures lent { row.new ≡ asked_row policy.now memory.old row.old user query }
-{
-    answering::ask(policy, memory, row, user, query)
 }
 
 // Any request.

@@ -1,6 +1,7 @@
 // What a user is told of a request that isn't refused.
 use query::Outcome;
 
+// No `Option<Outcome>`: its `None` would not say that a change is done.
 #[derive(Clone, Copy, PartialEq, Eq, Debug)]
 pub enum Reply {
     Done,

@@ -43,17 +43,16 @@ pub fn position(rows: &[u64], key: u64) -> usize
     ensures value { result ≡ position key rows.now }
     ensures within { 2 * result ≤ length rows.now }
 {
-    halve(rows, key, rows.len() / 2)
+    halve(rows, key)
 }
 
 // The halving itself, by hand: `partition_point` says where it comes out for rows that rise only.
-fn halve(rows: &[u64], key: u64, count: usize) -> usize
-    requires { count ≡ length rows.now / 2 }
+fn halve(rows: &[u64], key: u64) -> usize
     ensures value { result ≡ position key rows.now }
-    ensures within { result ≤ count }
+    ensures within { 2 * result ≤ length rows.now }
 {
     let mut low = 0;
-    let mut high = count;
+    let mut high = rows.len() / 2;
     while low < high {
         let mid = low + (high - low) / 2;
         if rows[2 * mid] < key {

@@ -149,6 +149,7 @@ pub fn delete(part: &mut [u64], count: usize, key: u32) -> Option<usize>
 pub fn range(rows: &[u64], range: KeyRange) -> &[u64]
     ensures value { result.now ≡ range_part range rows.now }
     ensures within { length result.now ≤ length rows.now }
+    ensures whole { length result.now % 2 ≡ 0 }
 {
     let start = position(rows, u64::from(range.from));
     let end = position(rows, u64::from(range.to) + 1).max(start);

@@ -82,7 +82,7 @@ fn planned(from: &[u64], source: usize, into: &[u64], destination: usize, keys: 
 
 // Merges the rows to copy among those of the destination, a row with the same key being replaced, and moves those behind
 // them once; where a part lies outside memory, the two overlap or there are to be fewer rows than before, nothing changes.
-// It says whether it was done: with no value and no reason beside the answer, an `Option<()>` would say no more.
+// It says whether it was done, as `HashSet::insert` does: a `Result<(), E>` would have an error that holds nothing.
 pub fn merge_into(memory: &mut [u64], copying: Copying) -> bool
     ensures told { result ≡ fits copying (length memory.old) }
     ensures after { memory.new ≡ merged_into copying memory.old }
@@ -175,16 +175,12 @@ fn move_row(memory: &mut [u64], from: usize, to: usize)
     requires to { to + 2 ≤ length memory.old }
     ensures { memory.new ≡ moved from to memory.old }
 {
-    let key = memory[from];
-    let amount = memory[from + 1];
-    memory[to] = key;
-    memory[to + 1] = amount;
+    memory.copy_within(from..from + 2, to);
 }
 
 #[cfg(test)]
 mod tests {
     use super::*;
-    use std::test::Fail;
 
     #[test]
     fn counts_new_keys(rt: HostRuntime) {
@@ -195,20 +191,21 @@ mod tests {
     }
 
     #[test]
-    fn plans_a_range(rt: HostRuntime) -> Result<(), Fail> {
+    fn plans_a_range(rt: HostRuntime) {
         let memory = [3, 0, 5, 0, 7, 0, 1, 0, 5, 0, 6, 0, 9, 0];
         let source = Part { start: 0, count: 3 };
         let destination = Part { start: 6, count: 4 };
         let keys = KeyRange { from: 4, to: 8 };
-        let Some(found) = plan(&memory, source, destination, keys) else {
-            assert!(rt; false);
-            return Ok(());
+        let found = Copying {
+            source: 2,
+            copied: 2,
+            destination: 8,
+            count: 2,
+            behind: 1,
+            total: 3,
         };
-        assert!(rt; found.source == 2 && found.copied == 2);
-        assert!(rt; found.destination == 8 && found.count == 2);
-        assert!(rt; found.behind == 1 && found.total == 3);
-        assert!(rt; plan(&memory[..12], source, destination, keys).is_none());
-        Ok(())
+        assert_eq!(rt; plan(&memory, source, destination, keys), Some(found));
+        assert_eq!(rt; plan(&memory[..12], source, destination, keys), None);
     }
 
     #[test]

@@ -11,12 +11,12 @@ mod looked;
 mod parts;
 mod sizes;
 
-pub use looked::{LookedAt, looks_at};
+pub use looked::{LookedAt, looks_at, sees_both};
 pub use parts::answer;
 pub use sizes::needed;
 
 // So many numbers stand in front of the rows of an answer.
-const HEADER: usize = 32;
+pub const HEADER: usize = 32;
 
 // What may be asked of the compartments in a user's view.
 #[derive(Clone, Copy, PartialEq, Eq, Debug)]
@@ -89,7 +89,9 @@ mod tests {
         let seen = Query::Shared { a, b, range };
         assert!(rt; looks_at(contract, seen).compartments() == [0, 2].as_slice());
         assert_eq!(rt; needed(&policy, contract, seen), Some(52));
+        assert!(rt; sees_both(contract, a, b));
         let b = 1;
+        assert!(rt; !sees_both(contract, a, b));
         let unseen = Query::Shared { a, b, range };
         assert!(rt; looks_at(contract, unseen).compartments().is_empty());
         assert_eq!(rt; needed(&policy, contract, unseen), None);

@@ -27,7 +27,7 @@ pub fn looks_at(contract: &Contract, query: Query) -> LookedAt
 }
 
 // Two compartments are compared only for a user who sees both.
-pub(crate) fn sees_both(contract: &Contract, a: usize, b: usize) -> bool
+pub fn sees_both(contract: &Contract, a: usize, b: usize) -> bool
     ensures { result ≡ (has (view_of contract.now) a && has (view_of contract.now) b) }
 {
     contract.sees(a as u64) && contract.sees(b as u64)

@@ -83,16 +83,14 @@ impl Parts<'_> {
         ensures rows { body.new ≡ cut range self.now ++ drop (length (cut range self.now)) body.old }
     {
         let mut at = 0;
-        let mut examined = 0;
         // By place, since what is written through a zip is lost to the proof.
         for (i, part) in self.parts.iter().enumerate() {
             let found = rows::range(part, range);
             header[i] = (found.len() / 2) as u64;
             body[at..at + found.len()].copy_from_slice(found);
             at += found.len();
-            examined += found.len() / 2;
         }
-        examined
+        at / 2
     }
 
     // How many rows lie in the range, and the sum of their amounts, modulo 2^64.

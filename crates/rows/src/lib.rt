@@ -43,17 +43,16 @@ pub fn position(rows: &[u64], key: u64) -> usize
     ensures value { result ≡ position key rows.now }
     ensures within { 2 * result ≤ length rows.now }
 {
-    halve(rows, key, rows.len() / 2)
+    halve(rows, key)
 }
 
 // The halving itself, by hand: `partition_point` says where it comes out for rows that rise only.
-fn halve(rows: &[u64], key: u64, count: usize) -> usize
-    requires { count ≡ length rows.now / 2 }
+fn halve(rows: &[u64], key: u64) -> usize
     ensures value { result ≡ position key rows.now }
-    ensures within { result ≤ count }
+    ensures within { 2 * result ≤ length rows.now }
 {
     let mut low = 0;
-    let mut high = count;
+    let mut high = rows.len() / 2;
     while low < high {
         let mid = low + (high - low) / 2;
         if rows[2 * mid] < key {
@@ -150,6 +149,7 @@ pub fn delete(part: &mut [u64], count: usize, key: u32) -> Option<usize>
 pub fn range(rows: &[u64], range: KeyRange) -> &[u64]
     ensures value { result.now ≡ range_part range rows.now }
     ensures within { length result.now ≤ length rows.now }
+    ensures whole { length result.now % 2 ≡ 0 }
 {
     let start = position(rows, u64::from(range.from));
     let end = position(rows, u64::from(range.to) + 1).max(start);

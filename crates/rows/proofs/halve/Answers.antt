@@ -1,12 +1,12 @@
 -- Each turn takes one step of the definition.
-use Rattle.std.proofs.Common.{refl, arith}
+use Rattle.std.proofs.Common.{◌/◌, length, refl, arith}
 use Rattle.rows.specs.Halving.{position}
 use Rattle.rows.proofs.Halves.{upper_half, lower_half, no_half}
 use Rattle.rows.proofs.halve.Goals as goal
 
 pub loop-low-init : goal.loop-low-init
 unfolding position
-loop-low-init c = (omega arith, omega arith, (c.args.count, omega arith, rw c.requires refl))
+loop-low-init c = (omega arith, omega arith, (length c.args.rows.now / 2, omega arith, refl))
 
 pub loop-low-preserved-then-rows-mid : goal.loop-low-preserved-then-rows-mid
 loop-low-preserved-then-rows-mid c =

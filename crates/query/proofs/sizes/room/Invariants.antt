@@ -6,6 +6,6 @@ use Rattle.query.proofs.sizes.room.Given as goal
 
 abbrev pub invariant-loop-seen : goal.invariant-loop-seen
 invariant-loop-seen l = record {
-  added : l.sum + room (rules_of l.policy).capacity (drop l.seen-index l.view) ≡ room (rules_of l.policy).capacity l.view;
+  added : l.sum + room (rules_of l.policy).capacity (drop l.seen-index l.seen-items) ≡ room (rules_of l.policy).capacity l.seen-items;
   small : l.sum ≤ 4096 * l.seen-index;
 }

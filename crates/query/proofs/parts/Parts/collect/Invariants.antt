@@ -11,7 +11,6 @@ invariant-loop-i l =
       heads : l.header ≡ counts l.range done ++ drop l.i l.initial.header;
       rows : l.body ≡ cut l.range done ++ drop l.at l.initial.body;
       at : l.at ≡ length (cut l.range done);
-      examined : l.examined ≡ count_in l.range done;
-      few : 2 * l.examined ≤ l.at;
+      examined : l.at ≡ 2 * count_in l.range done;
       room : l.at + lengths (drop l.i ps) ≤ length l.initial.body;
     }

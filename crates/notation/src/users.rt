@@ -33,11 +33,9 @@ fn seen_in(line: Line, compartments: u64) -> Result<Contract, Reason>
     line.named(place, Name::Writes)?;
     let writes = line.number(place + 1)?;
     line.ends(place + 2)?;
-    if is_view(view.as_slice(), compartments, writes) {
-        Ok(Contract { view, writes })
-    } else {
-        Err(Reason::BadView)
-    }
+    is_view(view.as_slice(), compartments, writes)
+        .then_some(Contract { view, writes })
+        .ok_or(Reason::BadView)
 }
 
 pub(crate) fn user_in(line: Line, user: usize, compartments: u64) -> Result<Contract, Reason>

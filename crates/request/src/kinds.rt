@@ -1,6 +1,9 @@
 // The kinds of requests and of queries, and their numbers in the format.
+ghost use Rattle.request.specs.Decoded.{kind_of};
 ghost use Rattle.request.specs.Kinds.{kind_number, kind_numbered, query_number, query_numbered};
 ghost use Rattle.std.specs.Prelude.{◌≡◌, ok_or};
+
+use query::Query;
 
 // The kinds of requests, by their numbers.
 #[derive(Clone, Copy, PartialEq, Eq, Debug)]
@@ -36,6 +39,18 @@ impl From<QueryKind> for u64 {
 
     fn from(kind: QueryKind) -> u64 {
         kind as u64
+    }
+}
+
+impl From<Query> for QueryKind {
+    ghost from_gives = { λ query kind. kind ≡ kind_of query };
+
+    fn from(query: Query) -> QueryKind {
+        match query {
+            Query::Rows { .. } => QueryKind::Rows,
+            Query::Total { .. } => QueryKind::Total,
+            Query::Shared { .. } => QueryKind::Shared,
+        }
     }
 }
 

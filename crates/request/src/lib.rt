@@ -111,14 +111,8 @@ fn decode_query(kind: QueryKind, numbers: &[u64]) -> Result<Query, Refusal>
     ensures { result ≡ query_of kind numbers.now }
 {
     match kind {
-        QueryKind::Rows => {
-            let range = range_at(numbers, 3)?;
-            Ok(Query::Rows { range })
-        }
-        QueryKind::Total => {
-            let range = range_at(numbers, 3)?;
-            Ok(Query::Total { range })
-        }
+        QueryKind::Rows => range_at(numbers, 3).map(|range| Query::Rows { range }),
+        QueryKind::Total => range_at(numbers, 3).map(|range| Query::Total { range }),
         QueryKind::Shared => {
             let a = index_at(numbers, 3, COMPARTMENTS)?;
             let b = index_at(numbers, 4, COMPARTMENTS)?;

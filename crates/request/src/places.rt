@@ -34,11 +34,9 @@ pub(crate) fn index_at(numbers: &[u64], place: usize, bound: u64) -> Result<usiz
     ensures { result ≡ below bound numbers.now place }
 {
     let number = number_at(numbers, place)?;
-    if number < bound {
-        Ok(number as usize)
-    } else {
-        Err(Refusal::NoRequest { place })
-    }
+    (number < bound)
+        .then_some(number as usize)
+        .ok_or(Refusal::NoRequest { place })
 }
 
 // The key range of the number there and the next one.

@@ -19,6 +19,7 @@ fn is_blank(byte: u8) -> bool
 }
 
 // The decimal number that a word is.
+// By hand and not by `str::parse`: that takes a `+` in front, and to it a number too large is none, where here it is out of bounds.
 fn number_of(word: &[u8]) -> Option<u64>
     ensures { result ≡ number_of word.now }
 {

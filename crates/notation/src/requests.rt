@@ -46,6 +46,7 @@ pub(crate) fn request_in(line: Line) -> Result<Request, Reason>
 }
 
 // What the user asks for, behind the verb.
+// `request` reads numbers by the same kinds, but these stand at other places, have one refusal, and need no end.
 fn asked(line: Line, user: usize, verb: Verb) -> Result<Request, Reason>
     ensures { result ≡ asked verb user line.entry.bytes.now }
 {

@@ -10,6 +10,7 @@ use crate::names::Name;
 use policy::{ArrayList, is_view};
 
 // The numbers behind `sees`, up to the word `writes`.
+// By place and not over the words: where the line ends too soon, the word that is missing is told as no number.
 fn view_in(line: Line) -> Result<ArrayList<u64, 16>, Reason>
     ensures value { then result (λ view. Ok view.items) ≡ view_from 16 line.entry.bytes.now 3 }
     ensures few { IfOk result (λ view. length view.items ≤ 16) }

@@ -54,6 +54,7 @@ impl From<Query> for QueryKind {
     }
 }
 
+// `as` gives the number of a kind, and nothing gives a kind of a number: so each kind has an arm, and each of the two enums its conversions.
 impl TryFrom<u64> for Kind {
     type Error = UnknownKind;
 

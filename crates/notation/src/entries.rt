@@ -13,6 +13,7 @@ use policy::ArrayList;
 use request::Request;
 
 // What a user sees, and the compartment in which they write.
+// Not `policy`'s `Contract`: only a policy that is read gives those, and here the policy is still to be read.
 #[derive(Clone, Copy)]
 pub(crate) struct Contract {
     pub(crate) view: ArrayList<u64, 16>,

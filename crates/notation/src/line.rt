@@ -19,6 +19,7 @@ fn is_blank(byte: u8) -> bool
 }
 
 // The decimal number that a word is.
+// By hand and not by `str::parse`: that takes a `+` in front, and to it a number too large is none, where here it is out of bounds.
 fn number_of(word: &[u8]) -> Option<u64>
     ensures { result ≡ number_of word.now }
 {
@@ -68,11 +69,9 @@ impl<'a> Line<'a> {
     pub(crate) fn named(self, place: u8, name: Name) -> Result<(), Reason>
         ensures { result ≡ named name self.entry.bytes.now place }
     {
-        if self.is_named(place, name) {
-            Ok(())
-        } else {
-            Err(Reason::Expected { name })
-        }
+        self.is_named(place, name)
+            .then_some(())
+            .ok_or(Reason::Expected { name })
     }
 
     pub(crate) fn verb(self, place: u8) -> Result<Verb, Reason>
@@ -95,36 +94,32 @@ impl<'a> Line<'a> {
         ensures bounds { IfOk result (λ n. (low ≤ n) × (n ≤ high)) }
     {
         let number = self.number(place)?;
-        if (low..=high).contains(&number) {
-            Ok(number)
-        } else {
-            Err(Reason::OutOfBounds {
+        (low..=high)
+            .contains(&number)
+            .then_some(number)
+            .ok_or(Reason::OutOfBounds {
                 word: usize::from(place) + 1,
             })
-        }
     }
 
     // The number of a user or a compartment, which has to be the next one.
     pub(crate) fn next_number(self, place: u8, next: usize) -> Result<(), Reason>
         ensures { result ≡ next_at next self.entry.bytes.now place }
     {
-        if self.number(place)? == next as u64 {
-            Ok(())
-        } else {
-            Err(Reason::NotNext { next })
-        }
+        (self.number(place)? == next as u64)
+            .then_some(())
+            .ok_or(Reason::NotNext { next })
     }
 
     // No word stands there any more.
     pub(crate) fn ends(self, place: u8) -> Result<(), Reason>
         ensures { result ≡ ends self.entry.bytes.now place }
     {
-        if self.word(place).is_empty() {
-            Ok(())
-        } else {
-            Err(Reason::TooLong {
+        self.word(place)
+            .is_empty()
+            .then_some(())
+            .ok_or(Reason::TooLong {
                 word: usize::from(place) + 1,
             })
-        }
     }
 }

@@ -20,8 +20,7 @@ impl Trace {
         self.numbers.push(view.len() as u64)?;
         self.numbers.extend_from_slice(view)?;
         self.numbers.extend_from_slice(&[0; 16][view.len()..])?;
-        self.numbers.push(contract.writes)?;
-        Ok(())
+        Ok(self.numbers.push(contract.writes)?)
     }
 
     // Adds what a line says.
@@ -74,7 +73,6 @@ impl Trace {
             last = i + 1;
             self.read_line(last, Line { bytes })?;
         }
-        self.whole(last)?;
-        Ok(())
+        Ok(self.whole(last)?)
     }
 }

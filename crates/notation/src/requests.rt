@@ -46,6 +46,7 @@ pub(crate) fn request_in(line: Line) -> Result<Request, Reason>
 }
 
 // What the user asks for, behind the verb.
+// `request` reads numbers by the same kinds, but these stand at other places, have one refusal, and need no end.
 fn asked(line: Line, user: usize, verb: Verb) -> Result<Request, Reason>
     ensures { result ≡ asked verb user line.entry.bytes.now }
 {
@@ -85,14 +86,8 @@ fn query_in(line: Line, kind: QueryKind) -> Result<Query, Reason>
     ensures { result ≡ query_said kind line.entry.bytes.now }
 {
     match kind {
-        QueryKind::Rows => {
-            let range = range_at(line, 2)?;
-            Ok(Query::Rows { range })
-        }
-        QueryKind::Total => {
-            let range = range_at(line, 2)?;
-            Ok(Query::Total { range })
-        }
+        QueryKind::Rows => range_at(line, 2).map(|range| Query::Rows { range }),
+        QueryKind::Total => range_at(line, 2).map(|range| Query::Total { range }),
         QueryKind::Shared => {
             let a = up_to::<15>(line, 2)?;
             let b = up_to::<15>(line, 3)?;

@@ -2,7 +2,7 @@
 ghost use Rattle.notation.specs.Lines.{behind_counts, single_numbers, stage_of};
 ghost use Rattle.std.specs.Prelude.{◌≡◌, ◌≤◌};
 
-// What comes next.
+// What comes next. The order of a text's lines is its format, and the numbers so far say where in it a line stands: so it is told anew, and no step is kept.
 #[derive(Clone, Copy)]
 pub(crate) enum Stage {
     Users,
@@ -13,6 +13,7 @@ pub(crate) enum Stage {
 }
 
 // How many numbers of a policy are a byte each.
+// A rule of its own: `wire` looks at the count of compartments too, and reads no wide numbers if either count is out of bounds.
 pub(crate) fn single_numbers(numbers: &[u64]) -> usize
     ensures { result ≡ single_numbers numbers.now }
 {

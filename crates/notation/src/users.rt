@@ -10,6 +10,7 @@ use crate::names::Name;
 use policy::{ArrayList, is_view};
 
 // The numbers behind `sees`, up to the word `writes`.
+// By place and not over the words: where the line ends too soon, the word that is missing is told as no number.
 fn view_in(line: Line) -> Result<ArrayList<u64, 16>, Reason>
     ensures value { then result (λ view. Ok view.items) ≡ view_from 16 line.entry.bytes.now 3 }
     ensures few { IfOk result (λ view. length view.items ≤ 16) }
@@ -33,11 +34,9 @@ fn seen_in(line: Line, compartments: u64) -> Result<Contract, Reason>
     line.named(place, Name::Writes)?;
     let writes = line.number(place + 1)?;
     line.ends(place + 2)?;
-    if is_view(view.as_slice(), compartments, writes) {
-        Ok(Contract { view, writes })
-    } else {
-        Err(Reason::BadView)
-    }
+    is_view(view.as_slice(), compartments, writes)
+        .then_some(Contract { view, writes })
+        .ok_or(Reason::BadView)
 }
 
 pub(crate) fn user_in(line: Line, user: usize, compartments: u64) -> Result<Contract, Reason>

@@ -30,32 +30,35 @@ fn push_numbers(bytes: &mut Vec<u8>, width: usize, numbers: &[u64]) -> Result<()
     Ok(())
 }
 
-// Writes some numbers in a byte each, and some in four.
-fn push_parts(bytes: &mut Vec<u8>, single: &[u64], wide: &[u64]) -> Result<(), AllocError>
-    ensures { OnOk result (bytes.new.items ≡ bytes.old.items ++ (written 1 single.now ++ written 4 wide.now)) }
+// Writes some numbers in a byte each, and some in so many bytes each.
+fn push_parts(
+    bytes: &mut Vec<u8>,
+    single: &[u64],
+    width: usize,
+    wide: &[u64],
+) -> Result<(), AllocError>
+    requires { width ≤ 8 }
+    ensures { OnOk result (bytes.new.items ≡ bytes.old.items ++ (written 1 single.now ++ written width wide.now)) }
 {
     push_numbers(bytes, 1, single)?;
-    push_numbers(bytes, 4, wide)?;
-    Ok(())
+    push_numbers(bytes, width, wide)
 }
 
 fn push_query(bytes: &mut Vec<u8>, user: u64, query: Query) -> Result<(), AllocError>
     ensures { OnOk result (bytes.new.items ≡ bytes.old.items ++ request_bytes (Request.Query user query)) }
 {
+    let single = [Kind::Query.into(), user, QueryKind::from(query).into()];
     match query {
-        Query::Rows { range } => push_parts(
+        Query::Rows { range } | Query::Total { range } => push_parts(
             bytes,
-            &[Kind::Query.into(), user, QueryKind::Rows.into()],
-            &[range.from.into(), range.to.into()],
-        ),
-        Query::Total { range } => push_parts(
-            bytes,
-            &[Kind::Query.into(), user, QueryKind::Total.into()],
+            &single,
+            4,
             &[range.from.into(), range.to.into()],
         ),
         Query::Shared { a, b, range } => push_parts(
             bytes,
-            &[Kind::Query.into(), user, QueryKind::Shared.into()],
+            &single,
+            4,
             &[a as u64, b as u64, range.from.into(), range.to.into()],
         ),
     }
@@ -68,11 +71,13 @@ fn push_request(bytes: &mut Vec<u8>, request: Request) -> Result<(), AllocError>
         Request::Write { user, row } => push_parts(
             bytes,
             &[Kind::Write.into(), user as u64],
+            4,
             &[row.key.into(), row.amount.into()],
         ),
         Request::Delete { user, key } => push_parts(
             bytes,
             &[Kind::Delete.into(), user as u64],
+            4,
             &[key.into()],
         ),
         Request::Copy {
@@ -82,6 +87,7 @@ fn push_request(bytes: &mut Vec<u8>, request: Request) -> Result<(), AllocError>
         } => push_parts(
             bytes,
             &[Kind::Copy.into(), user as u64],
+            4,
             &[compartment as u64, range.from.into(), range.to.into()],
         ),
         Request::Query { user, query } => push_query(bytes, user as u64, query),
@@ -102,15 +108,12 @@ fn push_policy(bytes: &mut Vec<u8>, numbers: &[u64]) -> Result<(), AllocError>
     ensures { OnOk result (bytes.new.items ≡ bytes.old.items ++ policy_bytes numbers.now) }
 {
     let (single, wide) = numbers.split_at(singles_there(numbers));
-    push_numbers(bytes, 1, single)?;
-    push_numbers(bytes, 2, wide)?;
-    Ok(())
+    push_parts(bytes, single, 2, wide)
 }
 
 pub(crate) fn push_trace(bytes: &mut Vec<u8>, trace: &Trace) -> Result<(), AllocError>
     ensures { OnOk result (bytes.new.items ≡ bytes.old.items ++ trace_bytes (said_of trace.now)) }
 {
     push_policy(bytes, trace.numbers.as_slice())?;
-    push_requests(bytes, trace.requests.as_slice())?;
-    Ok(())
+    push_requests(bytes, trace.requests.as_slice())
 }

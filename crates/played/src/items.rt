@@ -7,7 +7,8 @@ use policy::Refusal;
 use request::Request;
 use wire::Next;
 
-// One thing that a user brings. A Result would not say who is at fault.
+// One thing that a user brings.
+// No Result: a request at fault is told and played on behind like any other, and an error struct of user and place would name only these two numbers again.
 #[derive(Clone, Copy, PartialEq, Eq, Debug)]
 pub enum Item {
     Request { request: Request },

@@ -55,6 +55,12 @@ kind_at xs = then (number_at xs 0) (λ n. ok_or (kind_numbered n) (NoRequest 0))
 abbrev pub query_kind_at : List ℕ → Result QueryKind Refusal
 query_kind_at xs = then (number_at xs 2) (λ n. ok_or (query_numbered n) (NoRequest 2))
 
+-- the kind that a query is of
+abbrev pub kind_of : Query → QueryKind
+kind_of (Rows _) = QueryKind.Rows
+kind_of (Total _) = QueryKind.Total
+kind_of (Shared _ _ _) = QueryKind.Shared
+
 abbrev pub query_of : QueryKind → List ℕ → Result Query Refusal
 query_of QueryKind.Rows xs = then (range_at xs 3) (λ range. Ok (Rows range))
 query_of QueryKind.Total xs = then (range_at xs 3) (λ range. Ok (Total range))

@@ -1,6 +1,9 @@
 // The kinds of requests and of queries, and their numbers in the format.
+ghost use Rattle.request.specs.Decoded.{kind_of};
 ghost use Rattle.request.specs.Kinds.{kind_number, kind_numbered, query_number, query_numbered};
 ghost use Rattle.std.specs.Prelude.{◌≡◌, ok_or};
+
+use query::Query;
 
 // The kinds of requests, by their numbers.
 #[derive(Clone, Copy, PartialEq, Eq, Debug)]
@@ -39,6 +42,19 @@ impl From<QueryKind> for u64 {
     }
 }
 
+impl From<Query> for QueryKind {
+    ghost from_gives = { λ query kind. kind ≡ kind_of query };
+
+    fn from(query: Query) -> QueryKind {
+        match query {
+            Query::Rows { .. } => QueryKind::Rows,
+            Query::Total { .. } => QueryKind::Total,
+            Query::Shared { .. } => QueryKind::Shared,
+        }
+    }
+}
+
+// `as` gives the number of a kind, and nothing gives a kind of a number: so each kind has an arm, and each of the two enums its conversions.
 impl TryFrom<u64> for Kind {
     type Error = UnknownKind;
 

@@ -13,7 +13,7 @@ pub use kinds::{Kind, QueryKind, UnknownKind};
 pub use laws::{
     lowest_fault_stands, read_without_fault_stands, reads_what_stands, round_trip_stands,
 };
-use places::{COMPARTMENTS, USERS, index_at, range_at, value_at};
+use places::{COMPARTMENTS, Numbers, USERS};
 use policy::Refusal;
 use query::Query;
 use rows::{KeyRange, Row};
@@ -69,30 +69,32 @@ impl Request {
 pub fn decode(numbers: &[u64]) -> Result<Request, Refusal>
     ensures { result ≡ decoded numbers.now }
 {
-    let kind = value_at(numbers, 0)?;
-    let user = index_at(numbers, 1, USERS)?;
+    let numbers = Numbers { all: numbers };
+    let kind = numbers.value(0)?;
+    let user = numbers.index(1, USERS)?;
     decode_as(kind, user, numbers)
 }
 
-fn decode_as(kind: Kind, user: usize, numbers: &[u64]) -> Result<Request, Refusal>
-    ensures { result ≡ request_of kind user numbers.now }
+// `notation` reads a line by the same kinds, but words stand at other places there, are refused for other reasons, and have to end.
+fn decode_as(kind: Kind, user: usize, numbers: Numbers) -> Result<Request, Refusal>
+    ensures { result ≡ request_of kind user numbers.entry.all.now }
 {
     match kind {
         Kind::Write => {
-            let key = value_at(numbers, 2)?;
-            let amount = value_at(numbers, 3)?;
+            let key = numbers.value(2)?;
+            let amount = numbers.value(3)?;
             Ok(Request::Write {
                 user,
                 row: Row { key, amount },
             })
         }
         Kind::Delete => {
-            let key = value_at(numbers, 2)?;
+            let key = numbers.value(2)?;
             Ok(Request::Delete { user, key })
         }
         Kind::Copy => {
-            let compartment = index_at(numbers, 2, COMPARTMENTS)?;
-            let range = range_at(numbers, 3)?;
+            let compartment = numbers.index(2, COMPARTMENTS)?;
+            let range = numbers.range(3)?;
             Ok(Request::Copy {
                 user,
                 compartment,
@@ -100,29 +102,23 @@ fn decode_as(kind: Kind, user: usize, numbers: &[u64]) -> Result<Request, Refusa
             })
         }
         Kind::Query => {
-            let kind = value_at(numbers, 2)?;
+            let kind = numbers.value(2)?;
             let query = decode_query(kind, numbers)?;
             Ok(Request::Query { user, query })
         }
     }
 }
 
-fn decode_query(kind: QueryKind, numbers: &[u64]) -> Result<Query, Refusal>
-    ensures { result ≡ query_of kind numbers.now }
+fn decode_query(kind: QueryKind, numbers: Numbers) -> Result<Query, Refusal>
+    ensures { result ≡ query_of kind numbers.entry.all.now }
 {
     match kind {
-        QueryKind::Rows => {
-            let range = range_at(numbers, 3)?;
-            Ok(Query::Rows { range })
-        }
-        QueryKind::Total => {
-            let range = range_at(numbers, 3)?;
-            Ok(Query::Total { range })
-        }
+        QueryKind::Rows => numbers.range(3).map(|range| Query::Rows { range }),
+        QueryKind::Total => numbers.range(3).map(|range| Query::Total { range }),
         QueryKind::Shared => {
-            let a = index_at(numbers, 3, COMPARTMENTS)?;
-            let b = index_at(numbers, 4, COMPARTMENTS)?;
-            let range = range_at(numbers, 5)?;
+            let a = numbers.index(3, COMPARTMENTS)?;
+            let b = numbers.index(4, COMPARTMENTS)?;
+            let range = numbers.range(5)?;
             Ok(Query::Shared { a, b, range })
         }
     }

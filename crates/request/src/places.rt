@@ -9,44 +9,49 @@ pub(crate) const USERS: u64 = 32;
 
 pub(crate) const COMPARTMENTS: u64 = 16;
 
-// Slice and place stay two parameters: with a struct around the slice, each clause here reads `self.entry.0.now`.
-fn number_at(numbers: &[u64], place: usize) -> Result<u64, Refusal>
-    ensures { result ≡ number_at numbers.now place }
-{
-    numbers
-        .get(place)
-        .copied()
-        .ok_or(Refusal::NoRequest { place })
+// The numbers of a request.
+#[derive(Clone, Copy)]
+pub(crate) struct Numbers<'a> {
+    pub(crate) all: &'a [u64],
 }
 
-// The value that the number there stands for.
-pub(crate) fn value_at<T: TryFrom<u64>>(numbers: &[u64], place: usize) -> Result<T, Refusal>
-where
-    T::Error: Drop,
-    ensures { ReadAs T.try_from_gives place (number_at numbers.now place) result }
-{
-    let number = number_at(numbers, place)?;
-    T::try_from(number).map_err(|_| Refusal::NoRequest { place })
-}
-
-// The number there, if it is below the bound: that of a user or a compartment.
-pub(crate) fn index_at(numbers: &[u64], place: usize, bound: u64) -> Result<usize, Refusal>
-    ensures { result ≡ below bound numbers.now place }
-{
-    let number = number_at(numbers, place)?;
-    if number < bound {
-        Ok(number as usize)
-    } else {
-        Err(Refusal::NoRequest { place })
+impl Numbers<'_> {
+    fn number(self, place: usize) -> Result<u64, Refusal>
+        ensures { result ≡ number_at self.entry.all.now place }
+    {
+        self.all
+            .get(place)
+            .copied()
+            .ok_or(Refusal::NoRequest { place })
     }
-}
 
-// The key range of the number there and the next one.
-pub(crate) fn range_at(numbers: &[u64], place: usize) -> Result<KeyRange, Refusal>
-    requires { place < 2 ^ 32 }
-    ensures { result ≡ range_at numbers.now place }
-{
-    let from = value_at(numbers, place)?;
-    let to = value_at(numbers, place + 1)?;
-    Ok(KeyRange { from, to })
+    // The value that the number there stands for.
+    pub(crate) fn value<T: TryFrom<u64>>(self, place: usize) -> Result<T, Refusal>
+    where
+        T::Error: Drop,
+        ensures { ReadAs T.try_from_gives place (number_at self.entry.all.now place) result }
+    {
+        let number = self.number(place)?;
+        T::try_from(number).map_err(|_| Refusal::NoRequest { place })
+    }
+
+    // The number there, if it is below the bound: that of a user or a compartment.
+    pub(crate) fn index(self, place: usize, bound: u64) -> Result<usize, Refusal>
+        ensures { result ≡ below bound self.entry.all.now place }
+    {
+        let number = self.number(place)?;
+        (number < bound)
+            .then_some(number as usize)
+            .ok_or(Refusal::NoRequest { place })
+    }
+
+    // The key range of the number there and the next one.
+    pub(crate) fn range(self, place: usize) -> Result<KeyRange, Refusal>
+        requires { place < 2 ^ 32 }
+        ensures { result ≡ range_at self.entry.all.now place }
+    {
+        let from = self.value(place)?;
+        let to = self.value(place + 1)?;
+        Ok(KeyRange { from, to })
+    }
 }

@@ -2,6 +2,7 @@
 use request::Request;
 
 // What comes next in a trace, and how many bytes it takes.
+// A fault has a place and no `Refusal`: numbers are refused by `NoRequest` alone, and whoever reads this needs no arm for the others.
 #[derive(Clone, Copy, PartialEq, Eq, Debug)]
 pub enum Next {
     // A request.

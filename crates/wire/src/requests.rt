@@ -54,7 +54,8 @@ pub(crate) fn decode_by(layout: Layout, bytes: &[u8]) -> Result<Request, Refusal
     decode(layout.read(bytes, &mut [0; 7]))
 }
 
-// The place at which numbers are refused: no other refusal comes of them.
+// The place at which numbers are refused.
+// The types of `decode` allow other refusals, and a request: the law `RefusedAtPlace` says that none comes here, so the last arm never runs.
 pub(crate) fn place_at_fault(decoded: Result<Request, Refusal>) -> usize
     ensures { result ≡ place_at_fault decoded }
 {

@@ -35,10 +35,7 @@ fn tells_request(heap: Global, line: &str, words: &str) -> Result<bool, AllocErr
 fn writes_bytes(rt: HostRuntime) -> Result<(), Fail> {
     let text =
         "# one user\n\nusers 1\n compartments\t1\r\nuser 0 sees 0 writes 0\ncapacity 0 3\n31 delete 258\n0 total 1 4294967295";
-    let Ok(trace) = notation::read(rt.alloc(), text.as_bytes()) else {
-        assert!(rt; false);
-        return Ok(());
-    };
+    let trace = notation::read(rt.alloc(), text.as_bytes())?;
     let bytes = notation::write(rt.alloc(), &trace)?;
     assert!(rt; bytes.len() == 39);
     let bytes = bytes.as_slice();

@@ -1,5 +1,5 @@
 -- What a policy's fields say, and how its tables follow from them.
-use Rattle.std.specs.Prelude.{ℕ, ◌/◌, ◌%◌, Bool, not, ◌||◌, List, [], map, length, get_or, nat_le, slice_index, slice_index_or}
+use Rattle.std.specs.Prelude.{ℕ, Bool, not, ◌||◌, List, [], map, length, get_or, nat_le, slice_index, slice_index_or}
 use Rattle.policy.specs.Rules.{Rules, has, flows}
 use Rattle.policy.specs.Views.{view_of, valid, nobody}
 use Rattle.policy.specs.declared.contract.Contract.{Contract}
@@ -19,8 +19,11 @@ abbrev pub lets : ℕ → ℕ → Contract → Bool
 lets a b c = not (has (view_of c) b) || has (view_of c) a
 
 -- row a, column b: may rows flow from a to b?
-abbrev pub flow_table : List Contract → List Bool
-flow_table contracts = map (λ i. flows (rules_from (length contracts) contracts []) (i / 16) (i % 16)) (range_with_len 0 256)
+abbrev pub flow_row : List Contract → ℕ → List Bool
+flow_row contracts a = map (flows (rules_from (length contracts) contracts []) a) (range_with_len 0 16)
+
+abbrev pub flow_table : List Contract → List (List Bool)
+flow_table contracts = map (flow_row contracts) (range_with_len 0 16)
 
 -- where compartments begin, and how many rows they may hold
 abbrev pub starts_in : List Place → List ℕ

@@ -67,7 +67,7 @@ impl Policy {
         requires b { b < 16 }
         ensures { result ≡ flows (rules_of self.now) a b }
     {
-        self.flows[16 * a + b]
+        self.flows[a][b]
     }
 
     // Where a compartment lies, if it is there.

@@ -36,8 +36,8 @@ pub struct Policy {
     places: [Place; COMPARTMENTS],
     // Where the caches begin, behind the compartments.
     caches: usize,
-    // Whether rows may flow from a to b, at 16 * a + b.
-    flows: [bool; 256],
+    // Whether rows may flow from a to b, at b of row a.
+    flows: [[bool; COMPARTMENTS]; COMPARTMENTS],
     ghost contracts_long: { length contracts ≡ 32 },
     ghost places_long: { length places ≡ 16 },
     ghost few_users: { users ≤ 32 },

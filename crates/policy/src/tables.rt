@@ -1,10 +1,10 @@
 // The tables of a policy: where compartments begin, and where rows may flow.
-ghost use Rattle.std.specs.Prelude.{◌≡◌, ◌/◌, ◌%◌, ◌≤◌, true, length, take};
+ghost use Rattle.std.specs.Prelude.{◌≡◌, ◌≤◌, true, length, take};
 ghost use Rattle.std.specs.List.{list_all};
 ghost use Rattle.policy.specs.Layout.{starts_from, end_from};
-ghost use Rattle.policy.specs.Policies.{flow_table, lets, all_within, capacities_in, starts_in};
+ghost use Rattle.policy.specs.Policies.{flow_row, flow_table, lets, all_within, capacities_in, starts_in};
 
-use super::{Contract, Place};
+use super::{COMPARTMENTS, Contract, Place};
 use std::array::from_fn;
 
 // Writes where compartments of these capacities lie, one behind the other, and returns where the last ends.
@@ -30,13 +30,24 @@ pub(crate) fn place(places: &mut [Place], capacities: &[u64]) -> usize
 }
 
 // The table of flows, row by row.
-pub(crate) fn flows(contracts: &[Contract]) -> [bool; 256]
+pub(crate) fn flows(contracts: &[Contract]) -> [[bool; COMPARTMENTS]; COMPARTMENTS]
     ensures { result ≡ flow_table contracts.now }
 {
     from_fn(
-        |i: usize| -> bool
-            ensures { result ≡ list_all (lets (i / 16) (i % 16)) contracts.entry.now }
-        { may_flow(contracts, i as u64 / 16, i as u64 % 16) },
+        |a: usize| -> [bool; COMPARTMENTS]
+            ensures { result ≡ flow_row contracts.entry.now a }
+        { flows_from(contracts, a as u64) },
+    )
+}
+
+// To which compartments rows may flow from one.
+fn flows_from(contracts: &[Contract], a: u64) -> [bool; COMPARTMENTS]
+    ensures { result ≡ flow_row contracts.now a }
+{
+    from_fn(
+        |b: usize| -> bool
+            ensures { result ≡ list_all (lets a b) contracts.entry.now }
+        { may_flow(contracts, a, b as u64) },
     )
 }
 

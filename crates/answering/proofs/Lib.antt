@@ -5,3 +5,4 @@ pub mod Refused
 pub mod Resting
 pub mod Staying
 pub mod Lengths
+pub mod Listed

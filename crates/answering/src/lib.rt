@@ -56,8 +56,8 @@ fn found_or_not(
     ensures lent { row.new ≡ row_by policy.now memory.old (view_of asked.now.contract.now) asked.now.query row.old (found policy.now memory.old (view_of asked.now.contract.now) at asked.now.query) }
 {
     let held = Held { policy, memory };
-    let mut versions = [0; 16];
-    let versions = held.read_versions(asked.contract.view(), &mut versions);
+    let versions = held.versions(asked.contract.view());
+    let versions = versions.as_slice();
     if let Some(kept) = cached::look_up(memory, at, asked.query, versions) {
         return held.recall(asked, kept, row);
     }

@@ -3,7 +3,7 @@ ghost use Rattle.std.specs.Prelude.{◌≡◌};
 ghost use Rattle.answering.specs.Places.{version_at, part_at, fault_at};
 
 use crate::held::Held;
-use policy::{Place, VERSION_LIMIT};
+use policy::{Place, Refusal};
 
 impl<'a> Held<'a> {
     // How often a compartment was changed.
@@ -34,12 +34,9 @@ impl<'a> Held<'a> {
         ensures { result ≡ fault_at self.now.policy.now self.now.memory.now compartment }
     {
         let Place { start, capacity } = self.policy.place(compartment)?;
-        if self.memory[start] >= VERSION_LIMIT {
-            return Some(start);
+        match compartment::check(&self.memory[start..start + 2 + 2 * capacity], start) {
+            Err(Refusal::OutOfBounds { place }) => Some(place),
+            _ => None,
         }
-        if self.memory[start + 1] > capacity as u64 {
-            return Some(start + 1);
-        }
-        None
     }
 }

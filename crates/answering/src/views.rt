@@ -1,21 +1,22 @@
 // What memory holds of several compartments: versions, the lowest number out of bounds, and rows that are lent.
-ghost use Rattle.std.specs.Prelude.{◌≡◌, ◌≤◌, map, length, take};
+ghost use Rattle.std.specs.Prelude.{◌≡◌, ◌≤◌, map, length};
 ghost use Rattle.answering.specs.Places.{lower, damaged};
 ghost use Rattle.answering.specs.Asked.{versions_in, parts_in};
 
 use crate::held::Held;
+use policy::ArrayList;
 
 impl<'a> Held<'a> {
-    // Writes the version of each compartment, and gives these.
-    pub(crate) fn read_versions<'b>(&self, view: &[u64], versions: &'b mut [u64]) -> &'b [u64]
-        requires { length view.now ≤ length versions.old }
-        ensures { result.now ≡ versions_in self.now.policy.now self.now.memory.now view.now }
+    // The version of each compartment.
+    pub(crate) fn versions(&self, view: &[u64]) -> ArrayList<u64, 16>
+        requires { length view.now ≤ 16 }
+        ensures { result.items ≡ versions_in self.now.policy.now self.now.memory.now view.now }
     {
-        // By index, since a proof knows nothing of what is written through a `zip`.
-        for (i, compartment) in view.iter().enumerate() {
-            versions[i] = self.version_at(*compartment);
+        let mut versions = ArrayList::new(0);
+        for compartment in view {
+            versions.push(self.version_at(*compartment)).unwrap();
         }
-        &versions[..view.len()]
+        versions
     }
 
     // The lowest place in these compartments that is out of bounds.
@@ -31,14 +32,15 @@ impl<'a> Held<'a> {
     }
 
     // Lends the rows of each compartment, and of no other.
-    pub(crate) fn lend(&self, compartments: &[u64], parts: &mut [&'a [u64]])
-        requires { length compartments.now ≤ length parts.old }
-        ensures { map (λ x. x.now) (take (length compartments.now) parts.new) ≡ parts_in self.now.policy.now self.now.memory.now compartments.now }
+    pub(crate) fn lend(&self, compartments: &[u64]) -> ArrayList<&'a [u64], 16>
+        requires { length compartments.now ≤ 16 }
+        ensures { map (λ x. x.now) result.items ≡ parts_in self.now.policy.now self.now.memory.now compartments.now }
     {
-        // By index, as above.
-        for (i, compartment) in compartments.iter().enumerate() {
-            parts[i] = self.rows_at(*compartment);
+        let mut parts = ArrayList::new(&[][..]);
+        for compartment in compartments {
+            parts.push(self.rows_at(*compartment)).unwrap();
         }
+        parts
     }
 }
 

@@ -39,13 +39,8 @@ impl Held<'_> {
     {
         let length = row.len();
         let looked = query::looks_at(asked.contract, asked.query);
-        let none: &[u64] = &[];
-        let mut parts = [none; 16];
-        let compartments = looked.compartments();
-        self.lend(compartments, &mut parts);
-        query::answer(asked.query, &parts[..compartments.len()], row).ok_or(Refusal::ShortRow {
-            length,
-        })
+        let parts = self.lend(looked.compartments());
+        query::answer(asked.query, parts.as_slice(), row).ok_or(Refusal::ShortRow { length })
     }
 
     // What a kept answer tells: rows are worked out again, numbers are as they were.

@@ -53,7 +53,7 @@ pub(crate) fn between(
     let copying = merge::plan(memory, source, destination, range).ok_or(Refusal::OutOfBounds {
         place,
     })?;
-    let rows = counts.destination - copying.count + copying.total;
+    let rows = counts.destination - copying.destination.count + copying.total;
     raise(memory, written, rows)?;
     merge::merge_into(memory, copying);
     Ok(())

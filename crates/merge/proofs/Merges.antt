@@ -15,7 +15,7 @@ use Rattle.merge.proofs.Parts.{put_row, stands_kept, same_rows_at, stands_front,
 module _ (source destination behind : ℕ) where
   -- what is left of a merge
   abbrev pub left : ℕ → ℕ → ℕ → Copying
-  left copied count total = record { source = source; copied = copied; destination = destination; count = count; behind = behind; total = total }
+  left copied count total = record { source = record { start = source; count = copied }; destination = record { start = destination; count = count }; behind = behind; total = total }
 
   -- one turn, in its three cases
   module _ (copied count places : ℕ) (m : List ℕ) where

@@ -26,17 +26,17 @@ module _ (c : Copying) (m : List ℕ) where
         ]
       ])
 
-  pub merging_more : 0 < c.copied → 0 < c.total → merging c.total c m ≡ merging (stepped c m).total (stepped c m) (written c m)
+  pub merging_more : 0 < c.source.count → 0 < c.total → merging c.total c m ≡ merging (stepped c m).total (stepped c m) (written c m)
   unfolding merging
   merging_more h l = rw stepped_total (go c.total l) where
     go : (n : ℕ) → 0 < n → merging n c m ≡ merging (n - 1) (stepped c m) (written c m)
     go zero l = absurd (omega arith)
-    go (suc n) l = let e : suc n - 1 ≡ n = omega arith in rw (e, lt-ltb 0 c.copied h) refl
+    go (suc n) l = let e : suc n - 1 ≡ n = omega arith in rw (e, lt-ltb 0 c.source.count h) refl
 
-  pub merging_none : (n : ℕ) → c.copied ≡ 0 → merging n c m ≡ m
+  pub merging_none : (n : ℕ) → c.source.count ≡ 0 → merging n c m ≡ m
   unfolding merging
   merging_none zero e = refl
-  merging_none (suc n) e = rw (le-ltb 0 c.copied (omega arith)) refl
+  merging_none (suc n) e = rw (le-ltb 0 c.source.count (omega arith)) refl
 
   pub merging_full : (n : ℕ) → n ≡ 0 → merging n c m ≡ m
   unfolding merging

@@ -22,10 +22,8 @@ rows_at at rs m = take at m ++ (flat rs ++ drop (at + 2 * length rs) m)
 -- the numbers by which `ss` come among `ds`, with `bs` behind them
 abbrev pub copying : ℕ → List Row → ℕ → List Row → List Row → Copying
 copying source ss destination ds bs = record {
-  source = source;
-  copied = length ss;
-  destination = destination;
-  count = length ds;
+  source = record { start = source; count = length ss };
+  destination = record { start = destination; count = length ds };
   behind = length bs;
   total = length (put_all ss ds);
 }

@@ -19,10 +19,8 @@ lies_within start rows len = nat_le start len && nat_le rows ((len - start) / 2)
 -- what a copy of a range comes to, in rows that begin at these places
 abbrev pub planned : List ℕ → ℕ → List ℕ → ℕ → KeyRange → Copying
 planned from source into destination range = record {
-  source = source + 2 * position range.from from;
-  copied = length (range_part range from) / 2;
-  destination = destination + 2 * position range.from into;
-  count = length (range_part range into) / 2;
+  source = record { start = source + 2 * position range.from from; count = length (range_part range from) / 2 };
+  destination = record { start = destination + 2 * position range.from into; count = length (range_part range into) / 2 };
   behind = length into / 2 - position range.from into - length (range_part range into) / 2;
   total = length (range_part range into) / 2 + new_keys (range_part range from) (range_part range into);
 }
@@ -42,15 +40,15 @@ plan source destination range m =
 -- both parts lie within memory, apart from each other, and no row has to go
 abbrev pub fits : Copying → ℕ → Bool
 fits c len =
-    lies_within c.source c.copied len
-    && (lies_within c.destination c.total len
-    && (lies_within (c.destination + 2 * c.total) c.behind len
-    && (nat_le c.count c.total
-    && (nat_le (c.source + 2 * c.copied) c.destination || nat_le (c.destination + 2 * c.total + 2 * c.behind) c.source))))
+    lies_within c.source.start c.source.count len
+    && (lies_within c.destination.start c.total len
+    && (lies_within (c.destination.start + 2 * c.total) c.behind len
+    && (nat_le c.destination.count c.total
+    && (nat_le (c.source.start + 2 * c.source.count) c.destination.start || nat_le (c.destination.start + 2 * c.total + 2 * c.behind) c.source.start))))
 
 -- what is left of a merge lies within memory
 abbrev pub Left : Copying → ℕ → Type 0
-Left c len = (c.source + 2 * c.copied ≤ len) × (c.destination + 2 * c.count ≤ len) × (c.destination + 2 * c.total ≤ len)
+Left c len = (c.source.start + 2 * c.source.count ≤ len) × (c.destination.start + 2 * c.destination.count ≤ len) × (c.destination.start + 2 * c.total ≤ len)
 
 -- where the last of some rows begins
 abbrev pub last_at : ℕ → ℕ → ℕ
@@ -58,11 +56,11 @@ last_at start rows = start + 2 * (rows - 1)
 
 -- the last row left of the destination is greater than the last one to copy
 abbrev pub keeps : Copying → List ℕ → Bool
-keeps c m = nat_lt 0 c.count && nat_lt (slice_index m (last_at c.source c.copied)) (slice_index m (last_at c.destination c.count))
+keeps c m = nat_lt 0 c.destination.count && nat_lt (slice_index m (last_at c.source.start c.source.count)) (slice_index m (last_at c.destination.start c.destination.count))
 
 -- it has the same key
 abbrev pub replaces : Copying → List ℕ → Bool
-replaces c m = nat_lt 0 c.count && slice_index m (last_at c.source c.copied) == slice_index m (last_at c.destination c.count)
+replaces c m = nat_lt 0 c.destination.count && slice_index m (last_at c.source.start c.source.count) == slice_index m (last_at c.destination.start c.destination.count)
 
 -- how the two compare: as less where no row of the destination is left
 abbrev pub compared : Copying → List ℕ → Ordering
@@ -76,12 +74,10 @@ moved from to m = slice_set (slice_set m to (slice_index m from)) (to + 1) (slic
 abbrev pub stepped : Copying → List ℕ → Copying
 stepped c m =
     cond (keeps c m)
-    (record { source = c.source; copied = c.copied; destination = c.destination; count = c.count - 1; behind = c.behind; total = c.total - 1 })
+    (record { source = c.source; destination = record { start = c.destination.start; count = c.destination.count - 1 }; behind = c.behind; total = c.total - 1 })
     (record {
-      source = c.source;
-      copied = c.copied - 1;
-      destination = c.destination;
-      count = cond (replaces c m) (c.count - 1) c.count;
+      source = record { start = c.source.start; count = c.source.count - 1 };
+      destination = record { start = c.destination.start; count = cond (replaces c m) (c.destination.count - 1) c.destination.count };
       behind = c.behind;
       total = c.total - 1;
     })
@@ -90,19 +86,19 @@ stepped c m =
 abbrev pub written : Copying → List ℕ → List ℕ
 written c m =
     cond (keeps c m)
-    (moved (last_at c.destination c.count) (last_at c.destination c.total) m)
-    (moved (last_at c.source c.copied) (last_at c.destination c.total) m)
+    (moved (last_at c.destination.start c.destination.count) (last_at c.destination.start c.total) m)
+    (moved (last_at c.source.start c.source.count) (last_at c.destination.start c.total) m)
 
 -- turn after turn, one for each place, until no row to copy is left
 unfoldable pub merging : ℕ → Copying → List ℕ → List ℕ
 merging zero c m = m
-merging (suc places) c m = cond (nat_lt 0 c.copied) (merging places (stepped c m) (written c m)) m
+merging (suc places) c m = cond (nat_lt 0 c.source.count) (merging places (stepped c m) (written c m)) m
 
 -- the rows behind those of the destination move to where they will stand
 abbrev pub spread : Copying → List ℕ → List ℕ
 spread c m =
-    paste m (c.destination + 2 * c.total) (drop (c.destination + 2 * c.count) m)
-    (c.destination + 2 * c.count + 2 * c.behind - (c.destination + 2 * c.count))
+    paste m (c.destination.start + 2 * c.total) (drop (c.destination.start + 2 * c.destination.count) m)
+    (c.destination.start + 2 * c.destination.count + 2 * c.behind - (c.destination.start + 2 * c.destination.count))
 
 abbrev pub merged_into : Copying → List ℕ → List ℕ
 merged_into c m = cond (fits c (length m)) (merging c.total c (spread c m)) m

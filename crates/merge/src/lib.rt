@@ -17,14 +17,12 @@ pub struct Part {
     pub count: usize,
 }
 
-// Where the rows to copy stand and how many they are; where the rows stand that they come among, how many those are,
-// how many more stand behind them, and how many there are to be in place of `count`.
+// The rows to copy; the rows of the destination that they come among, how many more stand behind those,
+// and how many there are to be in place of those.
 #[derive(Clone, Copy, PartialEq, Eq, Debug)]
 pub struct Copying {
-    pub source: usize,
-    pub copied: usize,
-    pub destination: usize,
-    pub count: usize,
+    pub source: Part,
+    pub destination: Part,
     pub behind: usize,
     pub total: usize,
 }
@@ -52,7 +50,7 @@ pub fn new_keys(source: &[u64], destination: &[u64]) -> usize
 // What a copy of a key range comes to: the range found in both parts by halving, and the new keys counted; none where a part lies outside memory.
 pub fn plan(memory: &[u64], source: Part, destination: Part, range: KeyRange) -> Option<Copying>
     ensures value { result ≡ plan source destination range memory.now }
-    ensures within { IfSome result (λ c. (c.count ≤ destination.count) × (c.total ≤ c.count + source.count) × (2 * destination.count ≤ length memory.now) × (2 * source.count ≤ length memory.now)) }
+    ensures within { IfSome result (λ c. (c.destination.count ≤ destination.count) × (c.total ≤ c.destination.count + source.count) × (2 * destination.count ≤ length memory.now) × (2 * source.count ≤ length memory.now)) }
 {
     let from = source.rows(memory)?;
     let into = destination.rows(memory)?;
@@ -64,17 +62,21 @@ fn planned(from: &[u64], source: usize, into: &[u64], destination: usize, keys: 
     requires source { source + length from.now < 2 ^ 64 }
     requires destination { destination + length into.now < 2 ^ 64 }
     ensures value { result ≡ planned from.now source into.now destination keys }
-    ensures within { (result.count ≤ length into.now / 2) × (result.total ≤ result.count + length from.now / 2) }
+    ensures within { (result.destination.count ≤ length into.now / 2) × (result.total ≤ result.destination.count + length from.now / 2) }
 {
     let found = range(from, keys);
     let kept = range(into, keys);
     let first = u64::from(keys.from);
     let place = position(into, first);
     Copying {
-        source: source + 2 * position(from, first),
-        copied: found.len() / 2,
-        destination: destination + 2 * place,
-        count: kept.len() / 2,
+        source: Part {
+            start: source + 2 * position(from, first),
+            count: found.len() / 2,
+        },
+        destination: Part {
+            start: destination + 2 * place,
+            count: kept.len() / 2,
+        },
         behind: into.len() / 2 - place - kept.len() / 2,
         total: kept.len() / 2 + new_keys(found, kept),
     }
@@ -90,10 +92,10 @@ pub fn merge_into(memory: &mut [u64], copying: Copying) -> bool
     if !fits(copying, memory.len()) {
         return false;
     }
-    let behind = copying.destination + 2 * copying.count;
+    let behind = copying.destination.start + 2 * copying.destination.count;
     memory.copy_within(
         behind..behind + 2 * copying.behind,
-        copying.destination + 2 * copying.total,
+        copying.destination.start + 2 * copying.total,
     );
     merge(memory, copying);
     true
@@ -110,12 +112,12 @@ fn lies_within(start: usize, rows: usize, len: usize) -> bool
 fn fits(c: Copying, len: usize) -> bool
     ensures { result ≡ fits c len }
 {
-    lies_within(c.source, c.copied, len)
-        && lies_within(c.destination, c.total, len)
-        && lies_within(c.destination + 2 * c.total, c.behind, len)
-        && c.count <= c.total
-        && (c.source + 2 * c.copied <= c.destination
-            || c.destination + 2 * c.total + 2 * c.behind <= c.source)
+    lies_within(c.source.start, c.source.count, len)
+        && lies_within(c.destination.start, c.total, len)
+        && lies_within(c.destination.start + 2 * c.total, c.behind, len)
+        && c.destination.count <= c.total
+        && (c.source.start + 2 * c.source.count <= c.destination.start
+            || c.destination.start + 2 * c.total + 2 * c.behind <= c.source.start)
 }
 
 // The merge from behind: done where no row to copy is left, and stopped where no place is.
@@ -125,7 +127,7 @@ fn merge(memory: &mut [u64], copying: Copying)
 {
     // The two counts go down in turns that the keys decide, so that no range and no iterator counts them.
     let mut left = copying;
-    while left.copied > 0 && left.total > 0 {
+    while left.source.count > 0 && left.total > 0 {
         left.turn(memory);
     }
 }
@@ -134,36 +136,40 @@ impl Copying {
     // Writes the greater of the last rows left to the last place left, the one to copy where keys are equal.
     fn turn(&mut self, memory: &mut [u64])
         requires within { Left self.old (length memory.old) }
-        requires rows { 0 < self.old.copied }
+        requires rows { 0 < self.old.source.count }
         requires places { 0 < self.old.total }
         ensures next { self.new ≡ stepped self.old memory.old }
         ensures after { memory.new ≡ written self.old memory.old }
     {
         self.total -= 1;
-        let to = self.destination + 2 * self.total;
+        let to = self.destination.start + 2 * self.total;
         match self.compare(memory) {
             Ordering::Greater => {
-                self.count -= 1;
-                move_row(memory, self.destination + 2 * self.count, to);
+                self.destination.count -= 1;
+                move_row(
+                    memory,
+                    self.destination.start + 2 * self.destination.count,
+                    to,
+                );
                 return;
             }
-            Ordering::Equal => self.count -= 1,
+            Ordering::Equal => self.destination.count -= 1,
             Ordering::Less => {}
         }
-        self.copied -= 1;
-        move_row(memory, self.source + 2 * self.copied, to);
+        self.source.count -= 1;
+        move_row(memory, self.source.start + 2 * self.source.count, to);
     }
 
     // How the key of the last row left of the destination compares with that of the last one to copy: as less where none is left.
     fn compare(&self, memory: &[u64]) -> Ordering
-        requires source { self.now.source + 2 * self.now.copied ≤ length memory.now }
-        requires destination { self.now.destination + 2 * self.now.count ≤ length memory.now }
-        requires rows { 0 < self.now.copied }
+        requires source { self.now.source.start + 2 * self.now.source.count ≤ length memory.now }
+        requires destination { self.now.destination.start + 2 * self.now.destination.count ≤ length memory.now }
+        requires rows { 0 < self.now.source.count }
         ensures { result ≡ compared self.now memory.now }
     {
-        let key = memory[self.source + 2 * (self.copied - 1)];
-        match self.count.checked_sub(1) {
-            Some(last) => memory[self.destination + 2 * last].cmp(&key),
+        let key = memory[self.source.start + 2 * (self.source.count - 1)];
+        match self.destination.count.checked_sub(1) {
+            Some(last) => memory[self.destination.start + 2 * last].cmp(&key),
             None => Ordering::Less,
         }
     }
@@ -197,10 +203,8 @@ mod tests {
         let destination = Part { start: 6, count: 4 };
         let keys = KeyRange { from: 4, to: 8 };
         let found = Copying {
-            source: 2,
-            copied: 2,
-            destination: 8,
-            count: 2,
+            source: Part { start: 2, count: 2 },
+            destination: Part { start: 8, count: 2 },
             behind: 1,
             total: 3,
         };
@@ -212,17 +216,15 @@ mod tests {
     fn merges(rt: HostRuntime) {
         let mut memory = [5, 50, 7, 70, 1, 1, 5, 6, 9, 9, 8, 8, 8];
         let copying = Copying {
-            source: 0,
-            copied: 2,
-            destination: 4,
-            count: 2,
+            source: Part { start: 0, count: 2 },
+            destination: Part { start: 4, count: 2 },
             behind: 1,
             total: 3,
         };
         assert!(rt; merge_into(&mut memory, copying));
         assert!(rt; memory == [5, 50, 7, 70, 1, 1, 5, 50, 7, 70, 9, 9, 8]);
         let over = Copying {
-            source: 6,
+            source: Part { start: 6, count: 2 },
             ..copying
         };
         assert!(rt; !merge_into(&mut memory, over));

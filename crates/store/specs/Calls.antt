@@ -69,7 +69,7 @@ counts_told from into memory =
 
 -- how many rows there will be
 abbrev pub rows_then : Counts → Copying → ℕ
-rows_then counts c = counts.destination - c.count + c.total
+rows_then counts c = counts.destination - c.destination.count + c.total
 
 -- a copy that was planned: the version is raised with the new number of rows, unless that is refused
 abbrev pub planned_told : Written → Counts → Option Copying → List ℕ → Result (Unit {0}) Refusal

@@ -58,7 +58,7 @@ pub(crate) fn between(
     let copying = merge::plan(memory, source, destination, range).ok_or(Refusal::OutOfBounds {
         place,
     })?;
-    let rows = counts.destination - copying.count + copying.total;
+    let rows = counts.destination - copying.destination.count + copying.total;
     compartment::raise(&mut memory[room_of(written.place)], written, rows)?;
     // It is always done: the plan is of two compartments apart, leaves no fewer rows than before, and there is room for them.
     merge::merge_into(memory, copying);

@@ -4,7 +4,7 @@ use policy::{Place, Policy, Refusal};
 use std::test::Fail;
 
 // A refusal is what is asked for here, and no failure of a test.
-// A policy goes through no `?` and no `err()`: in a function that uses no `Contract` beside it, these were tried and not proved.
+// A policy goes through no `?` and no `err()`: in a function that uses no `Contract` this is not proved (both tried in this file).
 fn refused(numbers: &[u64], most: u64) -> Option<Refusal> {
     match Policy::read(numbers, most) {
         Ok(_) => None,

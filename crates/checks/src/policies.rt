@@ -3,8 +3,13 @@ use super::THREE;
 use policy::{Place, Policy, Refusal};
 use std::test::Fail;
 
+// A refusal is what is asked for here, and no failure of a test.
+// A policy goes through no `?` and no `err()`: in a function that uses no `Contract` this is not proved (both tried in this file).
 fn refused(numbers: &[u64], most: u64) -> Option<Refusal> {
-    Policy::read(numbers, most).err()
+    match Policy::read(numbers, most) {
+        Ok(_) => None,
+        Err(refusal) => Some(refusal),
+    }
 }
 
 // The refusal with one number changed.
@@ -18,7 +23,9 @@ fn refused_with(place: usize, number: u64) -> Option<Refusal> {
 
 #[test]
 fn says_who_sees_what(rt: HostRuntime) -> Result<(), Fail> {
-    let policy = Policy::read(&THREE, 64)?;
+    let Ok(policy) = Policy::read(&THREE, 64) else {
+        return Err(Fail::from("refused"));
+    };
     assert!(rt; policy.has_user(2) && !policy.has_user(3));
     assert!(rt;
         policy.sees(0, 1)
@@ -36,7 +43,9 @@ fn says_who_sees_what(rt: HostRuntime) -> Result<(), Fail> {
 
 #[test]
 fn says_where_things_lie(rt: HostRuntime) -> Result<(), Fail> {
-    let policy = Policy::read(&THREE, 3)?;
+    let Ok(policy) = Policy::read(&THREE, 3) else {
+        return Err(Fail::from("refused"));
+    };
     let place = Place {
         start: 16,
         capacity: 2,

@@ -3,6 +3,7 @@ use policy::Policy;
 use std::alloc::{AllocError, Global};
 use std::test::Fail;
 
+// No `checks::THREE`: `checks` stands above, and here user 2 sees 2 in front of 1, so that the order of a view is seen.
 // 0 sees 0 and 1, 1 sees 1, 2 sees 2 and 1; each writes in the compartment of their number; capacities 3, 3 and 2.
 fn three() -> [u64; 59] {
     let mut numbers = [0; 59];
@@ -39,7 +40,7 @@ where
     F: FnOnce(Global, &Policy) -> Result<String, AllocError>,
     requires { F.IsAlwaysCallable overview }
 {
-    // A match, since a policy that goes through `?` was tried, and isn't proved.
+    // A policy goes through no `?`: in a function that uses no `Contract` this is not proved (tried in `trace`).
     match Policy::read(numbers, 64) {
         Ok(policy) => Ok(overview(heap, &policy)?),
         Err(refusal) => Err(Fail::from(refusal)),

@@ -4,6 +4,7 @@
 use std::io::{self, Read};
 use std::process::ExitCode;
 
+// The same three lines stand in `play`, over `trace`, for the reason that stands there.
 fn main(rt: HostRuntime) -> io::Result<ExitCode> {
     let mut bytes = Vec::new(rt.alloc());
     rt.stdin().read_to_end(&mut bytes)?;

@@ -14,7 +14,7 @@ pub(crate) fn play_everyone(heap: Global, text: &mut String, bytes: &[u8]) -> Re
     ensures text { UnlessMemory result (string_bytes text.new ≡ string_bytes text.old ++ text_of bytes.now) }
     ensures end { EndsBy result (end_of bytes.now) }
 {
-    // A policy goes through no `?`: the check does not tell the borrow checker where the types of its fields lie.
+    // A policy goes through no `?` and no `map_err`: in a function that uses no `Contract` this is not proved (both tried in `trace`).
     match wire::read_policy(bytes, MOST) {
         Ok(policy) => {
             let mut memory = vec![in heap; 0; policy.memory_length()]?;
@@ -35,6 +35,7 @@ pub(crate) fn play_one(
     ensures end { EndsBy result (end_by (opening_with (length memory.old) bytes.now) bytes.now) }
     ensures after { UnlessMemory result (LeftBy (opening_with (length memory.old) bytes.now) user bytes.now memory.old memory.new) }
 {
+    // A match for the same reason as in `play_everyone`.
     match wire::read_policy(bytes, MOST) {
         Ok(policy) => play_behind(text, &policy, memory, Some(user), bytes),
         Err(refusal) => Err(refusal.into()),

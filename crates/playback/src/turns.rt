@@ -17,7 +17,8 @@ use store::Reply;
 const ROW: usize = 2080;
 
 // Plays the items up to where the trace is broken off, for one viewer or for everyone.
-// Text, memory and row are lent apart: a struct of them would have to promise in every call that it still holds the same three.
+// Text, memory and row are lent apart: each clause here tells of one of them before and after. Policy and viewer stand apart too:
+// `serve_item` takes the policy alone, and each clause would take a struct of both apart again.
 pub(crate) fn play_items(
     text: &mut String,
     policy: &Policy,

@@ -22,7 +22,7 @@ pub const MOST: u64 = 64;
 #[derive(Debug, Drop)]
 pub struct Played {
     pub text: String,
-    // No Result: what was printed stands in any case.
+    // No Result: what was printed stands in any case, and what both players promise of the end is the refusal or none.
     pub refused: Option<Refusal>,
 }
 

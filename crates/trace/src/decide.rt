@@ -42,6 +42,7 @@ fn answer(policy: &Policy, user: usize, query: Query) -> Words
     match query {
         Query::Rows { .. } | Query::Total { .. } => Words::Undecided,
         Query::Shared { a, b, .. } => {
+            // `query` asks the same of a contract; here none is at hand, and the policy is asked for the user.
             if policy.sees(user, a as u64) && policy.sees(user, b as u64) {
                 Words::Undecided
             } else {

@@ -10,7 +10,8 @@ use store::Reply;
 
 #[derive(Drop)]
 pub(crate) struct Counts {
-    // A count for each event, in the enum's order: those that never happen are told too, and a map would leave them out.
+    // A count for each event, in the order of `ALL`, which is the enum's: a map would have to be filled from `ALL` first, since those
+    // that never happen are told too.
     counts: [u64; EVENTS],
 }
 

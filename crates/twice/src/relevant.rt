@@ -2,6 +2,8 @@
 use policy::Policy;
 use request::Request;
 
+// The same rule stands in `playback`; the random traces say for themselves what is relevant, and take it from none of the programs
+// that they are beside.
 // The viewer's own request; or a write, delete or copy by a user who is there and who writes in a compartment that the viewer sees.
 pub(crate) fn relevant(policy: &Policy, viewer: usize, request: Request) -> bool {
     let user = request.user();

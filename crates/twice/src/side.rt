@@ -37,6 +37,7 @@ impl Side {
         ))
     }
 
+    // Two methods, so that a call says by name whose answer row is lent; all they share is `serve`.
     // A call of the viewer.
     pub(crate) fn serve_own(&mut self, policy: &Policy, call: Call) -> Response {
         serve(policy, &mut self.memory, &mut self.own, call)

@@ -16,7 +16,8 @@ pub(crate) struct Stage {
     recent: Recent,
 }
 
-// The first request of which a user was told otherwise, both counted from 0.
+// The first request of which a user was told otherwise, both counted from 0. It is no error: it is what a run looks for, and is
+// printed on standard output; an error (memory that runs out, a store that isn't opened) keeps a run from looking.
 #[derive(Clone, Copy)]
 pub(crate) struct Difference {
     pub(crate) user: usize,

@@ -17,6 +17,7 @@ impl Trace {
     pub(crate) fn random(random: &mut Random, heap: Global) -> anyhow::Result<Trace> {
         let shape = Shape::random(random);
         let numbers = shape.numbers(random, heap)?;
+        // A policy goes through no `?`: in a function that uses no `Contract` this is not proved (tried in `trace`).
         let Ok(policy) = Policy::read(numbers.as_slice(), 64) else {
             return Err(anyhow!("a random policy was refused"));
         };

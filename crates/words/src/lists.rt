@@ -7,6 +7,9 @@ ghost use Rattle.words.specs.Words.{list_bytes};
 
 use std::fmt;
 
+// The blank between items stands in both: one generic type for it would ask for a type of its own that shows a pair of numbers, and
+// for lists that are cut before the first is shown.
+
 // Rows, each a key and an amount, in brackets.
 #[derive(Clone, Copy)]
 pub(crate) struct List<'a> {

@@ -1,11 +1,11 @@
 // A list of at most N values in an array of its own: it is copied whole, and nothing is allocated.
-ghost use Rattle.std.specs.Prelude.{◌≡◌, ◌≤◌, ◌++◌, ◌∷◌, [], cond, length, take, nat_le, nat_lt};
+ghost use Rattle.std.specs.Prelude.{◌≡◌, ◌≤◌, ◌++◌, ◌∷◌, [], ⊤, cond, length, take, nat_le, nat_lt};
 ghost use Rattle.std.specs.Option.{option_map};
 
+use std::alloc::AllocError;
 use std::marker::Model;
 
 // The first `count` items are the list; what lies behind them says nothing. `arrayvec::ArrayVec` isn't Copy, and a policy is.
-#[derive(Clone, Copy)]
 pub struct ArrayList<T, const N: usize> {
     items: [T; N],
     count: usize,
@@ -28,6 +28,19 @@ impl<T, const N: usize> Model for ArrayList<T, N> {
       items = take-append-drop l.count l.items i;
       count = length-take-le l.count l.items (omega (arith, h.0, h.1)) i;
     } };
+}
+
+impl<T: Copy, const N: usize> Copy for ArrayList<T, N> {}
+
+// By hand, so that a clone is the list itself: a derived one promises only that the fields are clones of each other.
+impl<T: Copy, const N: usize> Clone for ArrayList<T, N> {
+    ghost is_clone = { λ x y. y ≡ x };
+
+    ghost is_infallible = { λ _. ⊤ };
+
+    fn clone(&self) -> Result<Self, AllocError> {
+        Ok(*self)
+    }
 }
 
 impl<T: Copy, const N: usize> ArrayList<T, N> {

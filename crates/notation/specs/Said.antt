@@ -4,7 +4,7 @@ use Rattle.request.specs.declared.Request.{Request}
 use Rattle.notation.specs.Lines.{then, Seen, stage_of, silent, count_said, user_said, capacity_said, request_said}
 use Rattle.notation.specs.Words.{lines}
 use Rattle.notation.specs.declared.Trace.{Trace}
-use Rattle.notation.specs.declared.entries.Contract.{Contract}
+use Rattle.policy.specs.declared.contract.Contract.{Contract}
 use Rattle.notation.specs.declared.entries.Entry.{Entry}
 use Rattle.notation.specs.declared.entries.Entry.TheVariants as entry
 use Rattle.notation.specs.declared.fault.Fault.{Fault}

@@ -9,16 +9,8 @@ use crate::names::Name;
 use crate::requests::request_in;
 use crate::stages::{Stage, stage_of};
 use crate::users::user_in;
-use policy::ArrayList;
+use policy::Contract;
 use request::Request;
-
-// What a user sees, and the compartment in which they write.
-// Not `policy`'s `Contract`: only a policy that is read gives those, and here the policy is still to be read.
-#[derive(Clone, Copy)]
-pub(crate) struct Contract {
-    pub(crate) view: ArrayList<u64, 16>,
-    pub(crate) writes: u64,
-}
 
 // What a line adds to a trace.
 #[derive(Clone, Copy)]

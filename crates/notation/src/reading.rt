@@ -5,10 +5,11 @@ ghost use Rattle.notation.specs.Words.{lines};
 ghost use Rattle.std.specs.Prelude.{◌≡◌, Ok, OnOk};
 
 use crate::Trace;
-use crate::entries::{Contract, Entry, entry_in};
+use crate::entries::{Entry, entry_in};
 use crate::fault::{Fault, ReadError, Reason};
 use crate::line::Line;
 use crate::stages::{Stage, stage_of};
+use policy::Contract;
 use std::alloc::AllocError;
 
 impl Trace {
@@ -16,11 +17,11 @@ impl Trace {
     fn add_contract(&mut self, contract: Contract) -> Result<(), AllocError>
         ensures { OnOk result (said_of self.new ≡ added (said_of self.old) (adds (Entry.User contract))) }
     {
-        let view = contract.view.as_slice();
+        let view = contract.view();
         self.numbers.push(view.len() as u64)?;
         self.numbers.extend_from_slice(view)?;
         self.numbers.extend_from_slice(&[0; 16][view.len()..])?;
-        Ok(self.numbers.push(contract.writes)?)
+        Ok(self.numbers.push(contract.writes())?)
     }
 
     // Adds what a line says.

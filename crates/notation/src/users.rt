@@ -3,11 +3,10 @@ ghost use Rattle.std.specs.Prelude.{◌≡◌, ◌≤◌, length, Ok, IfOk};
 ghost use Rattle.notation.specs.Lines.{then, user_said, view_from, view_said};
 ghost use Rattle.notation.specs.Said.{seen_of};
 
-use crate::entries::Contract;
 use crate::fault::Reason;
 use crate::line::Line;
 use crate::names::Name;
-use policy::{ArrayList, is_view};
+use policy::{ArrayList, Contract};
 
 // The numbers behind `sees`, up to the word `writes`.
 // By place and not over the words: where the line ends too soon, the word that is missing is told as no number.
@@ -34,8 +33,10 @@ fn seen_in(line: Line, compartments: u64) -> Result<Contract, Reason>
     line.named(place, Name::Writes)?;
     let writes = line.number(place + 1)?;
     line.ends(place + 2)?;
-    is_view(view.as_slice(), compartments, writes)
-        .then_some(Contract { view, writes })
+    let contract = Contract::new(view, writes);
+    contract
+        .is_valid(compartments)
+        .then_some(contract)
         .ok_or(Reason::BadView)
 }
 

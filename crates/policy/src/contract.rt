@@ -10,6 +10,6 @@ pub struct Contract {
     ghost few: { length view.items ≤ 16 },
 }
 
-pub(crate) mod judge;
+mod judge;
 mod reads;
 mod views;

@@ -19,7 +19,6 @@ mod tables;
 
 pub use array_list::ArrayList;
 pub use contract::Contract;
-pub use contract::judge::is_view;
 pub use place::{Place, VERSION_LIMIT, Written};
 pub use refusal::Refusal;
 pub use sizes::{CACHE, COMPARTMENTS, USERS};

@@ -2,7 +2,7 @@
 use crate::event::Event;
 use crate::side::Response;
 use policy::{Policy, Refusal};
-use query::{Answered, Outcome};
+use query::{Answered, HEADER, Outcome};
 use request::Request;
 use store::Reply;
 
@@ -82,5 +82,5 @@ impl Event {
 
 // The header of the answer row counts no rows.
 fn no_rows(row: &[u64]) -> bool {
-    row.iter().take(32).all(|count| *count == 0)
+    row.iter().take(HEADER).all(|count| *count == 0)
 }

@@ -5,7 +5,7 @@ ghost use Rattle.rows.specs.Halving.{pair_row, rows_of};
 ghost use Rattle.words.specs.Words.{answer_bytes};
 
 use super::lists::{List, Lists};
-use query::Answered;
+use query::{Answered, HEADER};
 use std::fmt;
 
 // An answer, and the answer row in which its rows stand, if there are any.
@@ -43,5 +43,5 @@ impl fmt::Display for Answer<'_> {
 fn behind_header(row: &[u64]) -> &[[u64; 2]]
     ensures { map pair_row result.now ≡ rows_of (drop 32 row.now) }
 {
-    rows::pairs(row.get(32..).unwrap_or(&[]))
+    rows::pairs(row.get(HEADER..).unwrap_or(&[]))
 }

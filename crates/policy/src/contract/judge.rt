@@ -14,7 +14,7 @@ impl Contract {
 }
 
 // Nothing twice, nothing that isn't there, and the compartment written in among them.
-pub fn is_view(view: &[u64], compartments: u64, writes: u64) -> bool
+fn is_view(view: &[u64], compartments: u64, writes: u64) -> bool
     ensures { result ≡ stands compartments view.now writes }
 {
     is_distinct(view, compartments) && view.contains(&writes)

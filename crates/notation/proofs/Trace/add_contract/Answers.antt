@@ -18,12 +18,13 @@ returns c =
     let view : List ℕ = c.args.contract.view.items in
     let writes : List ℕ = c.args.contract.writes ∷ [] in
     let zeros : List ℕ = replicate (16 - length view) 0 in
-    let is = c.as_slice-view.ensures.value in
+    let is = c.view-view.ensures.value in
     let first : one ≡ ns ++ length view ∷ [] = c.in_ok-push.ensures.items ∙ ap (λ (v : List ℕ). ns ++ length v ∷ []) is in
     let second : two ≡ one ++ view = c.in_ok-extend_from_slice.ensures.items ∙ ap (λ (v : List ℕ). one ++ v) is in
     let third : three ≡ two ++ zeros =
-    c.in_ok-extend_from_slice-2.ensures.items ∙ ap (λ (v : List ℕ). two ++ v) (behind (length c.as_slice-view.result.now) ∙ ap (λ (v : List ℕ). replicate (16 - length v) 0) is) in
+    c.in_ok-extend_from_slice-2.ensures.items ∙ ap (λ (v : List ℕ). two ++ v) (behind (length c.view-view.result.now) ∙ ap (λ (v : List ℕ). replicate (16 - length v) 0) is) in
+    let fourth : four ≡ three ++ writes = c.in_ok-push-2.ensures.items ∙ ap (λ (n : ℕ). three ++ n ∷ []) c.writes.ensures in
     let padded_view = pushed_twice one two three view zeros second third in
     said_same four _ (vec_items c.args.self.now.requests) _
-    (pushed_twice ns one four (length view ∷ []) (padded view ++ writes) first (pushed_twice one three four (padded view) writes padded_view c.in_ok-push-2.ensures.items))
+    (pushed_twice ns one four (length view ∷ []) (padded view ++ writes) first (pushed_twice one three four (padded view) writes padded_view fourth))
     (sym (append-nil (vec_items c.args.self.now.requests)))

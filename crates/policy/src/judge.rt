@@ -6,7 +6,7 @@ ghost use Rattle.policy.specs.Views.{valid};
 
 use super::{Contract, Refusal};
 use crate::numbers::Numbers;
-use crate::sizes::{COMPARTMENTS, USERS, user_at};
+use crate::sizes::{COMPARTMENTS, COUNTS, USER, USERS, user_at};
 
 // Hands on the contracts of all users, or leaves with the lowest user whose view may not stand.
 pub(crate) fn contracts(numbers: &Numbers) -> Result<[Contract; USERS], Refusal>
@@ -14,9 +14,8 @@ pub(crate) fn contracts(numbers: &Numbers) -> Result<[Contract; USERS], Refusal>
     ensures stand { IfOk result (λ cs. Stand numbers.now.all.now cs) }
 {
     let contracts = Contract::of_users(numbers);
-    let all = &contracts[..];
     // A `map_or` with `Ok` and `Err` would say no more than this match.
-    match bad_view(&all[..numbers.users()], numbers.compartments()) {
+    match bad_view(&contracts[..numbers.users()], numbers.compartments()) {
         Some(user) => Err(Refusal::BadView { user }),
         None => Ok(contracts),
     }
@@ -73,7 +72,7 @@ impl Counted<'_> {
     fn lowest_fault(&self, end: usize) -> Option<usize>
         ensures { result ≡ first (at_fault self.now.most self.now.numbers.now) 2 (end - 2) }
     {
-        (2..end).find(|place| self.is_fault(*place))
+        (COUNTS..end).find(|place| self.is_fault(*place))
     }
 
     fn is_fault(&self, place: usize) -> bool
@@ -93,7 +92,7 @@ impl Counted<'_> {
             0 => USERS as u64,
             1 => COMPARTMENTS as u64,
             _ if place >= user_at(self.users) => self.most,
-            _ if (place - 2) % 18 == 0 => COMPARTMENTS as u64,
+            _ if (place - COUNTS) % USER == 0 => COMPARTMENTS as u64,
             _ => return true,
         };
         (1..=high).contains(&n)

@@ -21,7 +21,7 @@ pub use array_list::ArrayList;
 pub use contract::Contract;
 pub use place::{Place, VERSION_LIMIT, Written};
 pub use refusal::Refusal;
-pub use sizes::{CACHE, COMPARTMENTS, USERS};
+pub use sizes::{CACHE, CAPACITY, COMPARTMENTS, COUNTS, USER, USERS};
 
 // A policy that was judged, with all that a request asks of it worked out.
 #[derive(Clone, Copy)]

@@ -3,7 +3,7 @@ ghost use Rattle.std.specs.Prelude.{◌≡◌, min, IfOk};
 ghost use Rattle.policy.specs.Numbers.{judged};
 ghost use Rattle.policy.specs.Read.{Stand, Reads, why};
 
-use super::{COMPARTMENTS, Contract, Place, Policy, Refusal, USERS, judge, tables};
+use super::{CAPACITY, COMPARTMENTS, Contract, Place, Policy, Refusal, USERS, judge, tables};
 use crate::numbers::Numbers;
 
 impl Policy {
@@ -12,7 +12,7 @@ impl Policy {
         ensures refused { why result ≡ judged (min most 4096) numbers.now }
         ensures reads { IfOk result (λ p. Reads numbers.now p) }
     {
-        let judged = Numbers::judged(numbers, most.min(4096))?;
+        let judged = Numbers::judged(numbers, most.min(CAPACITY))?;
         let contracts = judge::contracts(&judged)?;
         Ok(Policy::assemble(&judged, contracts))
     }
@@ -28,8 +28,7 @@ impl Policy {
             capacity: 0,
         }; COMPARTMENTS];
         let caches = tables::place(&mut places, numbers.capacities());
-        let all = &contracts[..];
-        let flows = tables::flows(&all[..users]);
+        let flows = tables::flows(&contracts[..users]);
         Policy {
             users,
             compartments: numbers.compartments() as usize,

@@ -6,13 +6,22 @@ pub const USERS: usize = 32;
 
 pub const COMPARTMENTS: usize = 16;
 
+// The counts of users and of compartments, the first numbers of a policy.
+pub const COUNTS: usize = 2;
+
+// The numbers of a user behind them: how many compartments they see, sixteen places for these, and the one in which they write.
+pub const USER: usize = 18;
+
+// The rows of a compartment, at most.
+pub const CAPACITY: u64 = 4096;
+
 // The numbers of a user's cache in memory.
 pub const CACHE: usize = 192;
 
-// Where a user's eighteen numbers begin among those of a policy; behind the last user the capacities.
+// Where a user's numbers begin among those of a policy; behind the last user the capacities.
 pub(crate) fn user_at(user: usize) -> usize
     requires { user ≤ 32 }
     ensures { result ≡ user_at user }
 {
-    2 + 18 * user
+    COUNTS + USER * user
 }

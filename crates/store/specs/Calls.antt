@@ -19,8 +19,7 @@ use Rattle.store.specs.Memory.{part, with_part}
 abbrev pub short : Policy → List ℕ → Bool
 short p memory = nat_lt (length memory) (memory_length p)
 
-abbrev pub opened_told : Policy → List ℕ → Result (Unit {0}) Refusal
-opened_told p memory = cond (short p memory) (Err (OutOfBounds (length memory))) (Ok tt)
+pub use Rattle.policy.specs.Access.{length_told as opened_told}
 
 -- zeros as far as the policy asks for memory; what lies behind is not touched
 abbrev pub opened : Policy → List ℕ → List ℕ

@@ -23,6 +23,7 @@ fn is_view(view: &[u64], compartments: u64, writes: u64) -> bool
 fn is_distinct(view: &[u64], compartments: u64) -> bool
     ensures { result ≡ distinct_below compartments view.now }
 {
+    // As `all` over these pairs it was tried: its closure does not know that the place lies within the view.
     for (i, compartment) in view.iter().enumerate() {
         if *compartment >= compartments || view[i + 1..].contains(compartment) {
             return false;

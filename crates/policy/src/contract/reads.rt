@@ -6,7 +6,7 @@ ghost use Rattle.policy.specs.Read.{Says, Say};
 use super::Contract;
 use crate::ArrayList;
 use crate::numbers::Numbers;
-use crate::sizes::{USERS, user_at};
+use crate::sizes::{USER, USERS, user_at};
 use std::array::from_fn;
 
 impl Contract {
@@ -25,7 +25,7 @@ impl Contract {
         let seen = all[at] as usize;
         Contract {
             view: ArrayList::of(&all[at + 1..at + 1 + seen], 0).unwrap(),
-            writes: all[at + 17],
+            writes: all[at + USER - 1],
         }
     }
 

@@ -26,8 +26,8 @@ fn is_relevant(policy: &Policy, user: usize, request: Request) -> bool
     if other == user {
         return true;
     }
-    let Some(written) = policy.written(other) else {
-        return false;
-    };
-    !request.is_query() && policy.sees(user, written.compartment as u64)
+    !request.is_query()
+        && policy
+            .written(other)
+            .is_some_and(|written| policy.sees(user, written.compartment as u64))
 }

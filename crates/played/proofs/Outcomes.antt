@@ -1,6 +1,6 @@
 -- What comes of the bytes of a trace: one item on.
-use Rattle.std.proofs.Common.{◌≡◌, ◌≢◌, ℕ, zero, suc, ◌-◌, ◌<◌, ◌≤◌, min, false, eqb, ltb, List, [], ◌∷◌, length, take, drop, Some, None, Ok, Err, Option, Result, IfSome, sym, refl, ◌∙◌, inl, inr, lit<, arith}
-use Rattle.played.specs.Items.{outcomes, outcomes_by}
+use Rattle.std.proofs.Common.{◌≡◌, ◌≢◌, ℕ, zero, suc, ◌-◌, ◌<◌, ◌≤◌, min, eqb, ltb, List, [], ◌∷◌, length, take, drop, Some, None, Ok, Err, Option, Result, IfSome, sym, refl, ◌∙◌, inl, inr, lit<, arith}
+use Rattle.played.specs.Items.{first_by, outcomes, outcomes_by}
 use Rattle.played.specs.declared.items.Item.{Item}
 use Rattle.policy.specs.declared.refusal.Refusal.{Refusal}
 use Rattle.request.specs.declared.Request.{Request}
@@ -8,7 +8,7 @@ use Rattle.request.specs.declared.kinds.Kind.{Kind}
 use Rattle.request.specs.declared.kinds.Kind.TheVariants.{Write, Delete, Copy, Query}
 use Rattle.request.specs.declared.kinds.QueryKind.{QueryKind}
 use Rattle.request.specs.declared.kinds.QueryKind.TheVariants.{Rows, Total, Shared}
-use Rattle.std.proofs.lemmas.Bool.{cases_Bool, cases_lt, cond-true, cond-false, eq-eqb, ne_eqb, ltb-false, ltb-true, eqb-false}
+use Rattle.std.proofs.lemmas.Bool.{cases_Bool, cases_lt, cond-true, cond-false, eq-eqb, ne_eqb, ltb-false, ltb-true}
 use Rattle.std.proofs.lemmas.List.{drop_all, length-drop, take_rest}
 use Rattle.wire.specs.Bytes.{size}
 use Rattle.wire.specs.NextRequest.{next_in, next_by, whole, kind_layout, kind_in, query_kind_in, request_layout, Takes}
@@ -77,17 +77,15 @@ one_on n bytes e =
     ∙ (more n bytes (omega arith)
     ∙ by_same (outcomes n) all bytes (next_in bytes) (next_takes bytes) (λ rest s. enough n (length rest) rest (omega arith) (omega arith)))
 
--- x is what comes next: of it p.0 comes, and p.1 bytes are taken
-pub taken_on : (bytes now : List ℕ) (x : Next) (p : Result Item Refusal × ℕ) → false ≡ eqb (length bytes) 0 → x ≡ next_in bytes → now ≡ drop p.1 bytes →
-    outcomes_by all bytes x ≡ p.0 ∷ all (drop p.1 bytes) → outcomes (length bytes) bytes ≡ p.0 ∷ outcomes (length now) now
-taken_on bytes now x p some is behind e =
-    let h : length bytes ≢ 0 = eqb-false (length bytes) 0 (sym some) in
-    let g = rw is at e in
-    rw behind (one_on (length bytes - 1) bytes (omega arith) ∙ g)
+-- one comes, and what it takes is gone
+by_first : (bytes : List ℕ) (x : Next) → outcomes_by all bytes x ≡ (first_by x (length bytes)).0 ∷ all (drop (first_by x (length bytes)).1 bytes)
+by_first bytes (next.Request r k) = refl
+by_first bytes (next.Fault user place k) = refl
+by_first bytes (next.End place) = rw (drop_all (length bytes) bytes (omega arith)) refl
 
--- the end of the trace takes all
-pub end_on : (bytes : List ℕ) (why : Refusal) → ◌≡◌ {A = List (Result Item Refusal)} (Err why ∷ []) (Err why ∷ all (drop (length bytes) bytes))
-end_on bytes why = rw (drop_all (length bytes) bytes (omega arith)) refl
+pub first_on : (bytes : List ℕ) → length bytes ≢ 0 →
+    outcomes (length bytes) bytes ≡ (first_by (next_in bytes) (length bytes)).0 ∷ all (drop (first_by (next_in bytes) (length bytes)).1 bytes)
+first_on bytes h = one_on (length bytes - 1) bytes (omega arith) ∙ by_first bytes (next_in bytes)
 
 -- what lies behind n bytes, where there may be fewer
 pub cut_behind : (bytes : List ℕ) (n k : ℕ) → k ≡ min n (length bytes) → take (length bytes - k) (drop k bytes) ≡ drop n bytes

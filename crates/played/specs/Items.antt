@@ -23,6 +23,12 @@ outcomes_by rest bytes (next.Request r length) = Ok (Request r) ∷ rest (drop l
 outcomes_by rest bytes (next.Fault user place length) = Ok (NoRequest user place) ∷ rest (drop length bytes)
 outcomes_by rest bytes (next.End place) = Err (refusal.NoRequest place) ∷ []
 
+-- the first of them, and how many of so many bytes it takes; the end of the trace takes all
+abbrev pub first_by : Next → ℕ → Result Item Refusal × ℕ
+first_by (next.Request r length) all = (Ok (Request r), length)
+first_by (next.Fault user place length) all = (Ok (NoRequest user place), length)
+first_by (next.End place) all = (Err (refusal.NoRequest place), all)
+
 -- all that comes of the bytes; every item takes a byte at least, so there are no more than bytes
 abbrev pub outcomes : ℕ → List ℕ → List (Result Item Refusal)
 outcomes zero bytes = []

@@ -1,7 +1,8 @@
 // What stands in a trace behind its policy: what users bring, one after the other, until the trace ends.
 ghost use Rattle.std.specs.Iterator.{YieldsFirst, item_count};
-ghost use Rattle.std.specs.Prelude.{◌≡◌};
-ghost use Rattle.played.specs.Items.{from, left, outcomes_of};
+ghost use Rattle.std.specs.Prelude.{◌≡◌, ◌≤◌, length};
+ghost use Rattle.played.specs.Items.{first_by, from, left, outcomes_of};
+ghost use Rattle.wire.specs.NextRequest.{next_in};
 
 use policy::Refusal;
 use request::Request;
@@ -39,9 +40,9 @@ impl<'a> Items<'a> {
     pub fn of(trace: &'a [u8]) -> Items<'a>
         ensures { left result ≡ outcomes_of trace.now }
     {
-        let start = wire::policy_length(trace).min(trace.len());
+        let start = wire::policy_length(trace);
         Items {
-            bytes: &trace[start..],
+            bytes: trace.get(start..).unwrap_or(&[]),
         }
     }
 }
@@ -57,22 +58,27 @@ impl Iterator for Items<'_> {
         if self.bytes.is_empty() {
             return None;
         }
-        let (item, length) = match wire::next(self.bytes) {
-            Next::Request { request, length } => (Ok(Item::Request { request }), length),
-            Next::Fault {
-                user,
-                place,
-                length,
-            } => (
-                Ok(Item::NoRequest {
-                    user: user as usize,
-                    place,
-                }),
-                length,
-            ),
-            Next::End { place } => (Err(Refusal::NoRequest { place }), self.bytes.len()),
-        };
+        let (item, length) = first_in(self.bytes);
         self.bytes = &self.bytes[length..];
         Some(item)
+    }
+}
+
+// What comes next in the bytes, and how many of them it takes; where the trace is broken off, all.
+fn first_in(bytes: &[u8]) -> (Result<Item, Refusal>, usize)
+    ensures value { result ≡ first_by (next_in bytes.now) (length bytes.now) }
+    ensures within { result.1 ≤ length bytes.now }
+{
+    match wire::next(bytes) {
+        Next::Request { request, length } => (Ok(Item::Request { request }), length),
+        Next::Fault {
+            user,
+            place,
+            length,
+        } => {
+            let user = usize::from(user);
+            (Ok(Item::NoRequest { user, place }), length)
+        }
+        Next::End { place } => (Err(Refusal::NoRequest { place }), bytes.len()),
     }
 }

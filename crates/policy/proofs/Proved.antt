@@ -1,10 +1,10 @@
 -- Proofs of the laws of policies.
-use Rattle.std.proofs.Common.{◌≡◌, ℕ, zero, suc, ◌+◌, ◌<◌, ◌≤◌, Bool, true, false, not, ◌&&◌, ◌||◌, eqb, ltb, List, [], ◌∷◌, length, get_or, take, drop, Some, None, Decides, Option, IfSome, sym, refl, ◌∙◌, inl, inr, le_of_suc-le-suc, not-suc-le-zero, arith}
+use Rattle.std.proofs.Common.{◌≡◌, ℕ, zero, suc, ◌+◌, ◌<◌, ◌≤◌, Bool, true, false, not, ◌&&◌, ◌||◌, eqb, ltb, List, [], ◌∷◌, length, get_or, take, drop, Some, None, Decides, Option, sym, refl, ◌∙◌, inl, inr, le_of_suc-le-suc, not-suc-le-zero, arith}
 use Rattle.std.proofs.lemmas.List.{get_or-take, get_or-drop, length-take-le, length-map}
-use Rattle.std.proofs.lemmas.Bool.{and_parts, cases_Bool, cases_lt, ltb-true, lt-ltb, le-ltb, or_parts, or_cases, eqb-true, eqb-false, not-true, both_ways}
+use Rattle.std.proofs.lemmas.Bool.{and_parts, cases_Bool, ltb-true, lt-ltb, or_parts, or_cases, eqb-true, eqb-false, not-true, both_ways}
 use Rattle.std.proofs.lemmas.Bool.Decides.{Decides-below_and}
 use Rattle.std.specs.Option.{option_map}
-use Rattle.policy.specs.Access.{rules_of, capacities_of, contract_at, place_at, Inside}
+use Rattle.policy.specs.Access.{rules_of, capacities_of, contract_at, place_at, place_in, Inside}
 use Rattle.policy.specs.Layout.{size, starts_from, end_from}
 use Rattle.policy.specs.Laws.{JudgedLowest, PoliciesValid, ReadsRules, FlowsBothWays, FlowsDown, CompartmentsApart}
 use Rattle.policy.specs.Numbers.{first, at_fault, places, bad_view, users_in, compartments_in, user_at, or_else}
@@ -161,8 +161,11 @@ compartments_apart p d h =
     ((within_end 0 cs d k).1, λ c l. apart 0 cs c d l k)
 
 -- a compartment lies within the memory that the policy asks for
-pub places_inside : (p : Policy) (c : ℕ) → IfSome (place_at p c) (Inside p)
-places_inside p c = elim (cases_lt c p.compartments) [
-  | inl h ↦ rw (lt-ltb c p.compartments h) (omega (arith, (compartments_apart p c h).0))
-  | inr h ↦ rw (le-ltb c p.compartments h) tt
-]
+pub place_inside : (p : Policy) (c : ℕ) → c < p.compartments → Inside p (place_in p c)
+place_inside p c h = omega (arith, (compartments_apart p c h).0)
+
+-- where a contract's user writes there is a compartment
+pub written_found : (p : Policy) (u : ℕ) (k : Contract) → Some k ≡ contract_at p u → (u < p.users) × (k ≡ get_or (take p.users p.contracts) u nobody) × (place_at p k.writes ≡ Some (place_in p k.writes))
+written_found p u k e =
+    let found = contract_found p u k e in
+    let there : k.writes < p.compartments = rw found.1 (written_there p u found.0) in (found.0, found.1, rw (lt-ltb k.writes p.compartments there) refl)

@@ -1,7 +1,7 @@
 // What requests ask of a policy: each answer is a look into a table.
 ghost use Rattle.std.specs.Prelude.{◌≡◌, ◌<◌, ◌≤◌, IfOk, IfSome, length, nat_lt};
 ghost use Rattle.policy.specs.Rules.{flows};
-ghost use Rattle.policy.specs.Access.{contracts_of, places_of, rules_of, contract_at, place_at, written_at, Inside, cache_at, may_flow, may_see, may_copy, memory_length, length_told};
+ghost use Rattle.policy.specs.Access.{contracts_of, places_of, rules_of, contract_at, place_at, place_in, written_at, Inside, cache_at, may_flow, may_see, may_copy, memory_length, length_told};
 ghost use Rattle.std.specs.Option.{option_map};
 
 use super::{CACHE, Contract, Place, Policy, Refusal, Written};
@@ -43,6 +43,7 @@ impl Policy {
     }
 
     // The user sees the compartment, and its rows may flow to where the user writes.
+    #[tactic(auto, using(crate::proofs::Proved::contract_found, crate::proofs::Proved::seen_there, crate::proofs::Proved::written_there))]
     pub fn may_copy(&self, user: usize, compartment: u64) -> bool
         ensures { result ≡ may_copy (rules_of self.now) user compartment }
     {
@@ -75,10 +76,22 @@ impl Policy {
         ensures value { result ≡ place_at self.now compartment }
         ensures inside { IfSome result (Inside self.now) }
     {
-        self.places().get(compartment as usize).copied()
+        if compartment >= self.compartments as u64 {
+            return None;
+        }
+        Some(self.place_in(compartment as usize))
+    }
+
+    fn place_in(&self, compartment: usize) -> Place
+        requires { compartment < self.now.compartments }
+        ensures value { result ≡ place_in self.now compartment }
+        ensures inside { Inside self.now result }
+    {
+        self.places[compartment]
     }
 
     // The compartment in which a user writes, if they are there.
+    #[tactic(auto, using(crate::proofs::Proved::written_found))]
     pub fn written(&self, user: usize) -> Option<Written>
         ensures value { result ≡ written_at self.now user }
         ensures inside { IfSome result (λ w. Inside self.now w.place) }

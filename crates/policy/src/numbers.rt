@@ -15,6 +15,7 @@ pub(crate) struct Numbers<'a> {
 
 impl<'a> Numbers<'a> {
     // Leaves with the lowest place at fault.
+    #[tactic(auto, using(crate::proofs::Judging::fit_from_none))]
     pub(crate) fn judged(numbers: &'a [u64], most: u64) -> Result<Numbers<'a>, Refusal>
         requires { most ≤ 4096 }
         ensures refused { why result ≡ fault most numbers.now }

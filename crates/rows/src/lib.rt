@@ -32,6 +32,7 @@ pub struct Totals {
 }
 
 // The rows, each as its key and its amount; an odd number at the end belongs to none.
+#[tactic(auto, using(crate::proofs::Paired::pairs_rows))]
 pub fn pairs(rows: &[u64]) -> &[[u64; 2]]
     ensures { map pair_row result.now ≡ rows_of rows.now }
 {
@@ -206,6 +207,7 @@ fn merge(a: &[u64], b: &[u64], out: &mut [u64]) -> usize
 }
 
 // How many rows of `a` have keys that are in `b`, in one pass over both.
+#[tactic(auto, using(crate::proofs::Passes::length_shared))]
 pub fn shared_keys(a: &[u64], b: &[u64]) -> usize
     ensures value { result ≡ length (merged (rows_of a.now) (rows_of b.now)) }
     ensures within { result ≤ length a.now / 2 }

@@ -6,6 +6,7 @@ ghost use Rattle.std.specs.Result.{result_ok};
 ghost use Rattle.cache.specs.Kept.{kept_from};
 ghost use Rattle.cache.specs.Places.{query_numbers, key_numbers, kept_numbers, kept_of, kept_in, found_in, look_up, moved_back, keep_in};
 
+use policy::COMPARTMENTS;
 use query::{Answered, Query};
 use rows::KeyRange;
 
@@ -75,14 +76,12 @@ impl TryFrom<[u64; KEPT]> for Kept {
     }
 }
 
-// A place is 24 numbers: the query in five, sixteen versions, and what is kept in three. Its first 21 are the key.
+// A place is 24 numbers: the query in five, a version for each compartment there may be, and what is kept in three. Its first 21 are the key.
 const QUERY: usize = 5;
-
-const VERSIONS: usize = 16;
 
 const KEPT: usize = 3;
 
-const KEY: usize = QUERY + VERSIONS;
+const KEY: usize = QUERY + COMPARTMENTS;
 
 const PLACE: usize = KEY + KEPT;
 
@@ -141,7 +140,7 @@ fn query_numbers(query: Query) -> [u64; QUERY]
     let (kind, a, b) = match query {
         Query::Rows { .. } => (1, 0, 0),
         Query::Total { .. } => (2, 0, 0),
-        Query::Shared { a, b, .. } => (3, a as u64, b as u64),
+        Query::Shared { a, b, .. } => (3, a, b),
     };
     [kind, u64::from(from), u64::from(to), a, b]
 }
@@ -151,7 +150,7 @@ fn key_numbers(query: Query, versions: &[u64]) -> [u64; KEY]
     ensures { result ≡ key_numbers query versions.now }
 {
     let mut key = [0; KEY];
-    let count = versions.len().min(VERSIONS);
+    let count = versions.len().min(COMPARTMENTS);
     key[..QUERY].copy_from_slice(&query_numbers(query));
     key[QUERY..QUERY + count].copy_from_slice(&versions[..count]);
     key
@@ -166,7 +165,7 @@ mod tests {
         Query::Rows { range }
     }
 
-    fn shared(a: usize, b: usize) -> Query {
+    fn shared(a: u64, b: u64) -> Query {
         let range = KeyRange { from: 3, to: 4 };
         Query::Shared { a, b, range }
     }

@@ -19,7 +19,7 @@ fn delete(user: usize, key: u32) -> Request {
     Request::Delete { user, key }
 }
 
-fn copy(user: usize, compartment: usize) -> Request {
+fn copy(user: usize, compartment: u64) -> Request {
     Request::Copy {
         user,
         compartment,

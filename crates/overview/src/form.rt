@@ -10,6 +10,7 @@ mod table;
 pub(crate) use graph::Graph;
 pub(crate) use table::Table;
 
+// What the text holds afterwards is said in std's words in each clause: a word of our own for it would have to be looked up, and says no more.
 pub(crate) trait Form {
     // The texts that each function writes.
     ghost shape: { Shape };

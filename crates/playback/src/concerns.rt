@@ -29,5 +29,5 @@ fn is_relevant(policy: &Policy, user: usize, request: Request) -> bool
     !request.is_query()
         && policy
             .written(other)
-            .is_some_and(|written| policy.sees(user, written.compartment as u64))
+            .is_some_and(|written| policy.sees(user, written.compartment))
 }

@@ -17,6 +17,7 @@ use store::Reply;
 const ROW: usize = 2080;
 
 // Plays the items up to where the trace is broken off, for one viewer or for everyone.
+// What the text holds afterwards is said in std's words in each clause: a word of our own for it would have to be looked up, and says no more.
 // Text, memory and row are lent apart: each clause here tells of one of them before and after. Policy and viewer stand apart too:
 // `serve_item` takes the policy alone, and each clause would take a struct of both apart again.
 pub(crate) fn play_items(

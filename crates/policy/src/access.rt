@@ -99,7 +99,7 @@ impl Policy {
         let compartment = self.contract(user)?.writes();
         let place = self.place(compartment)?;
         Some(Written {
-            compartment: compartment as usize,
+            compartment,
             place,
         })
     }

@@ -13,6 +13,6 @@ pub struct Place {
 // The compartment in which a user writes, and where it lies.
 #[derive(Clone, Copy, PartialEq, Eq, Debug)]
 pub struct Written {
-    pub compartment: usize,
+    pub compartment: u64,
     pub place: Place,
 }

@@ -12,7 +12,7 @@ pub enum Refusal {
     // Nobody has the user's number.
     NoUser { user: usize },
     // The user doesn't see the compartment, or its rows may not flow to where the user writes.
-    NoFlow { compartment: usize },
+    NoFlow { compartment: u64 },
     // The compartment would hold more rows than its capacity.
     NoRoom { capacity: usize },
     // No row has the key.
@@ -20,7 +20,7 @@ pub enum Refusal {
     // The lent answer row is too short.
     ShortRow { length: usize },
     // The compartment's version is as high as it may be.
-    LastVersion { compartment: usize },
+    LastVersion { compartment: u64 },
 }
 
 mod told;

@@ -26,7 +26,7 @@ pub enum Query {
     // How many these are, and the sum of their amounts.
     Total { range: KeyRange },
     // The rows of `a` in the range whose keys are in `b`.
-    Shared { a: usize, b: usize, range: KeyRange },
+    Shared { a: u64, b: u64, range: KeyRange },
 }
 
 impl Query {

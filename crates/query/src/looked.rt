@@ -19,18 +19,16 @@ pub fn looks_at(contract: &Contract, query: Query) -> LookedAt
 {
     match query {
         Query::Rows { .. } | Query::Total { .. } => LookedAt::of(contract.view()),
-        Query::Shared { a, b, .. } if sees_both(contract, a, b) => {
-            LookedAt::of(&[a as u64, b as u64])
-        }
+        Query::Shared { a, b, .. } if sees_both(contract, a, b) => LookedAt::of(&[a, b]),
         Query::Shared { .. } => LookedAt::of(&[]),
     }
 }
 
 // Two compartments are compared only for a user who sees both.
-pub fn sees_both(contract: &Contract, a: usize, b: usize) -> bool
+pub fn sees_both(contract: &Contract, a: u64, b: u64) -> bool
     ensures { result ≡ (has (view_of contract.now) a && has (view_of contract.now) b) }
 {
-    contract.sees(a as u64) && contract.sees(b as u64)
+    contract.sees(a) && contract.sees(b)
 }
 
 impl LookedAt {

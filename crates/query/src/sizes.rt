@@ -15,7 +15,7 @@ pub fn needed(policy: &Policy, contract: &Contract, query: Query) -> Option<usiz
     match query {
         Query::Rows { .. } | Query::Total { .. } => Some(HEADER + 2 * room(policy, contract)),
         Query::Shared { a, b, .. } => {
-            sees_both(contract, a, b).then(|| HEADER + 2 * capacity(policy, a as u64))
+            sees_both(contract, a, b).then(|| HEADER + 2 * capacity(policy, a))
         }
     }
 }

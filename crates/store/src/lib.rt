@@ -65,7 +65,7 @@ pub fn copy(
     policy: &Policy,
     memory: &mut [u64],
     user: usize,
-    compartment: usize,
+    compartment: u64,
     range: KeyRange,
 ) -> Result<(), Refusal>
     ensures told { result ≡ copied_told policy.now user compartment range memory.old }
@@ -73,11 +73,11 @@ pub fn copy(
 {
     policy.check_length(memory)?;
     let refusal = Refusal::NoFlow { compartment };
-    if !policy.may_copy(user, compartment as u64) {
+    if !policy.may_copy(user, compartment) {
         return Err(refusal);
     }
     let written = policy.written(user).ok_or(refusal)?;
-    let from = policy.place(compartment as u64).ok_or(refusal)?;
+    let from = policy.place(compartment).ok_or(refusal)?;
     if written.compartment == compartment {
         return copying::into_itself(memory, written);
     }

@@ -20,7 +20,7 @@ pub(crate) fn decide(policy: &Policy, request: Request) -> Words
             user,
             compartment,
             ..
-        } => if_allowed(policy.may_copy(user, compartment as u64)),
+        } => if_allowed(policy.may_copy(user, compartment)),
         Request::Query { user, query } if policy.has_user(user) => answer(policy, user, query),
         Request::Query { .. } => Words::NotAllowed,
     }
@@ -43,7 +43,7 @@ fn answer(policy: &Policy, user: usize, query: Query) -> Words
         Query::Rows { .. } | Query::Total { .. } => Words::Undecided,
         Query::Shared { a, b, .. } => {
             // `query` asks the same of a contract; here none is at hand, and the policy is asked for the user.
-            if policy.sees(user, a as u64) && policy.sees(user, b as u64) {
+            if policy.sees(user, a) && policy.sees(user, b) {
                 Words::Undecided
             } else {
                 Words::NotSeen

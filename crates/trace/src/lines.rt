@@ -13,6 +13,7 @@ use std::alloc::AllocError;
 use std::fmt::Write;
 
 // Plays the items, up to where the trace is broken off.
+// What the text holds afterwards is said in std's words in each clause: a word of our own for it would have to be looked up, and says no more.
 pub(crate) fn play_items(text: &mut String, policy: &Policy, items: Items) -> Result<(), Stop>
     ensures text { UnlessMemory result (string_bytes text.new ≡ string_bytes text.old ++ lines (rules_of policy.now) (items_in (left items.entry))) }
     ensures end { EndsBy result (end_in (left items.entry)) }

@@ -143,13 +143,13 @@ impl Mix {
     }
 
     // Mostly one that is there; often one of those that everybody may see.
-    fn compartment(&self, random: &mut Random) -> usize {
+    fn compartment(&self, random: &mut Random) -> u64 {
         let bound = match random.below(20) {
             0 => 16,
             1..=8 => self.shape.compartments.min(2),
             _ => self.shape.compartments,
         };
-        random.below(bound) as usize
+        u64::from(random.below(bound))
     }
 
     // Few amounts, so that the same row is written again.

@@ -12,5 +12,5 @@ pub(crate) fn relevant(policy: &Policy, viewer: usize, request: Request) -> bool
     }
     let written = policy.written(user);
     !request.is_query()
-        && written.is_some_and(|written| policy.sees(viewer, written.compartment as u64))
+        && written.is_some_and(|written| policy.sees(viewer, written.compartment))
 }

@@ -29,7 +29,7 @@ impl Event {
         }
     }
 
-    fn of_copy(policy: &Policy, user: usize, compartment: usize) -> Event {
+    fn of_copy(policy: &Policy, user: usize, compartment: u64) -> Event {
         match policy.written(user) {
             Some(written) if written.compartment == compartment => Event::CopiedToItself,
             _ => Event::Copied,
@@ -53,10 +53,10 @@ impl Event {
         }
     }
 
-    fn of_refused_copy(policy: &Policy, user: usize, compartment: usize) -> Event {
+    fn of_refused_copy(policy: &Policy, user: usize, compartment: u64) -> Event {
         if !policy.has_user(user) {
             Event::Absent
-        } else if !policy.sees(user, compartment as u64) {
+        } else if !policy.sees(user, compartment) {
             Event::UnseenCopy
         } else {
             Event::NoFlow

@@ -20,6 +20,7 @@ use std::alloc::AllocError;
 use std::fmt::Write;
 
 // Each of these writes a line behind the text. Where memory runs out, a part of the line may stand there.
+// What the text holds afterwards is said in std's words in each clause: a word of our own for it would have to be looked up, and says no more.
 
 // The request is done.
 pub fn push_done_line(text: &mut String, user: usize) -> Result<(), AllocError>

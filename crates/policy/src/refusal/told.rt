@@ -31,9 +31,9 @@ impl Refusal {
             | Refusal::NoRequest { place: n }
             | Refusal::NoUser { user: n }
             | Refusal::NoRoom { capacity: n }
-            | Refusal::ShortRow { length: n }
-            | Refusal::LastVersion { compartment: n } => n as u128,
-            Refusal::NoFlow { compartment } => 32 + compartment as u128,
+            | Refusal::ShortRow { length: n } => n as u128,
+            Refusal::LastVersion { compartment } => u128::from(compartment),
+            Refusal::NoFlow { compartment } => 32 + u128::from(compartment),
             Refusal::NoRow { key } => u128::from(key),
         }
     }

@@ -4,19 +4,17 @@ ghost use Rattle.cache.specs.Places.{look_up, keep_in};
 ghost use Rattle.answering.specs.Asked.{cache_part, with_cache};
 
 use cache::Kept;
+use policy::CACHE;
 use query::Query;
 
 // That a cache lies within memory is asked of the callers: a struct with a ghost field could not hold the memory that `keep` writes.
-
-// Eight places of 24 numbers.
-const SIZE: usize = 192;
 
 // What the cache at a place has for a query with these versions.
 pub(crate) fn look_up(memory: &[u64], at: usize, query: Query, versions: &[u64]) -> Option<Kept>
     requires { at + 192 ≤ length memory.now }
     ensures { result ≡ look_up query versions.now (cache_part at memory.now) }
 {
-    cache::look_up(&memory[at..at + SIZE], query, versions)
+    cache::look_up(&memory[at..at + CACHE], query, versions)
 }
 
 // Keeps an answer in the cache at a place.
@@ -24,5 +22,5 @@ pub(crate) fn keep(memory: &mut [u64], at: usize, query: Query, versions: &[u64]
     requires { at + 192 ≤ length memory.old }
     ensures { memory.new ≡ with_cache at (keep_in query versions.now kept (cache_part at memory.old)) memory.old }
 {
-    cache::keep(&mut memory[at..at + SIZE], query, versions, kept);
+    cache::keep(&mut memory[at..at + CACHE], query, versions, kept);
 }

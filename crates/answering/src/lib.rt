@@ -3,8 +3,8 @@
 
 ghost use Rattle.std.specs.Prelude.{◌≡◌, ◌+◌, ◌≤◌, length};
 ghost use Rattle.policy.specs.Access.{memory_length};
-ghost use Rattle.policy.specs.Views.{view_of};
-ghost use Rattle.answering.specs.Asked.{versions_in, found, told_by, memory_by, row_by, asked_told, asked_memory, asked_row};
+ghost use Rattle.answering.specs.Asked.{asked_told, asked_memory, asked_row};
+ghost use Rattle.answering.specs.Held.{told_at, memory_at, row_at};
 
 use held::Held;
 use policy::{Policy, Refusal};
@@ -51,12 +51,12 @@ fn found_or_not(
 ) -> Result<Outcome, Refusal>
     requires long { memory_length policy.now ≤ length memory.old }
     requires cache { at + 192 ≤ length memory.old }
-    ensures told { result ≡ told_by policy.now memory.old (view_of asked.now.contract.now) asked.now.query (length row.old) (found policy.now memory.old (view_of asked.now.contract.now) at asked.now.query) }
-    ensures after { memory.new ≡ memory_by policy.now memory.old (view_of asked.now.contract.now) (versions_in policy.now memory.old (view_of asked.now.contract.now)) at asked.now.query (length row.old) (found policy.now memory.old (view_of asked.now.contract.now) at asked.now.query) }
-    ensures lent { row.new ≡ row_by policy.now memory.old (view_of asked.now.contract.now) asked.now.query row.old (found policy.now memory.old (view_of asked.now.contract.now) at asked.now.query) }
+    ensures told { result ≡ told_at policy.now memory.old asked.now at (length row.old) }
+    ensures after { memory.new ≡ memory_at policy.now memory.old asked.now at (length row.old) }
+    ensures lent { row.new ≡ row_at policy.now memory.old asked.now at row.old }
 {
     let held = Held { policy, memory };
-    let versions = held.versions(asked.contract.view());
+    let versions = held.versions(asked.contract);
     let versions = versions.as_slice();
     if let Some(kept) = cached::look_up(memory, at, asked.query, versions) {
         return held.recall(asked, kept, row);

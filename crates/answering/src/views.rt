@@ -1,19 +1,21 @@
 // What memory holds of several compartments: versions, the lowest number out of bounds, and rows that are lent.
-ghost use Rattle.std.specs.Prelude.{◌≡◌, ◌≤◌, map, length};
+ghost use Rattle.std.specs.Prelude.{◌≡◌, map};
+ghost use Rattle.policy.specs.Views.{view_of};
+ghost use Rattle.query.specs.Looks.{places_of};
 ghost use Rattle.answering.specs.Places.{lower, damaged};
 ghost use Rattle.answering.specs.Asked.{versions_in, parts_in};
 
 use crate::held::Held;
-use policy::ArrayList;
+use policy::{ArrayList, Contract};
+use query::LookedAt;
 
 impl<'a> Held<'a> {
-    // The version of each compartment.
-    pub(crate) fn versions(&self, view: &[u64]) -> ArrayList<u64, 16>
-        requires { length view.now ≤ 16 }
-        ensures { result.items ≡ versions_in self.now.policy.now self.now.memory.now view.now }
+    // The version of each compartment that a contract lets its user see.
+    pub(crate) fn versions(&self, contract: &Contract) -> ArrayList<u64, 16>
+        ensures { result.items ≡ versions_in self.now.policy.now self.now.memory.now (view_of contract.now) }
     {
         let mut versions = ArrayList::new(0);
-        for compartment in view {
+        for compartment in contract.view() {
             versions.push(self.version_at(*compartment)).unwrap();
         }
         versions
@@ -31,13 +33,12 @@ impl<'a> Held<'a> {
         lowest
     }
 
-    // Lends the rows of each compartment, and of no other.
-    pub(crate) fn lend(&self, compartments: &[u64]) -> ArrayList<&'a [u64], 16>
-        requires { length compartments.now ≤ 16 }
-        ensures { map (λ x. x.now) result.items ≡ parts_in self.now.policy.now self.now.memory.now compartments.now }
+    // Lends the rows of each compartment that is looked at, and of no other.
+    pub(crate) fn lend(&self, looked: &LookedAt) -> ArrayList<&'a [u64], 16>
+        ensures { map (λ x. x.now) result.items ≡ parts_in self.now.policy.now self.now.memory.now (places_of looked.now) }
     {
         let mut parts = ArrayList::new(&[][..]);
-        for compartment in compartments {
+        for compartment in looked.compartments() {
             parts.push(self.rows_at(*compartment)).unwrap();
         }
         parts

@@ -1,7 +1,7 @@
 // Answers that are worked out, or recalled.
 ghost use Rattle.std.specs.Prelude.{◌≡◌, Ok, Err, length};
-ghost use Rattle.policy.specs.Views.{view_of};
-ghost use Rattle.answering.specs.Asked.{worked_out, worked_row, recalled, recalled_row, told_again, unexamined, unless, refusal_of};
+ghost use Rattle.answering.specs.Asked.{recalled, recalled_row, told_again, unexamined, unless};
+ghost use Rattle.answering.specs.Held.{answer_in, row_in, refusal_in};
 
 use crate::held::Held;
 use cache::Kept;
@@ -18,7 +18,7 @@ pub(crate) struct Asked<'a> {
 impl Held<'_> {
     // Refused are a row that is too short, then what is out of bounds in the view; neither is looked at where a compartment isn't seen.
     pub(crate) fn check(&self, asked: &Asked, lent: usize) -> Result<(), Refusal>
-        ensures { result ≡ unless (λ refusal. Err refusal) (Ok tt) (refusal_of self.now.policy.now self.now.memory.now lent (view_of asked.now.contract.now) asked.now.query) }
+        ensures { result ≡ unless (λ refusal. Err refusal) (Ok tt) (refusal_in self.now asked.now lent) }
     {
         let Some(needed) = query::needed(self.policy, asked.contract, asked.query) else {
             return Ok(());
@@ -34,12 +34,12 @@ impl Held<'_> {
 
     // Works an answer out of the compartments that the query looks at: only their rows are lent.
     pub(crate) fn work_out(&self, asked: &Asked, row: &mut [u64]) -> Result<Outcome, Refusal>
-        ensures told { result ≡ worked_out self.now.policy.now self.now.memory.now (view_of asked.now.contract.now) asked.now.query (length row.old) }
-        ensures after { row.new ≡ worked_row self.now.policy.now self.now.memory.now (view_of asked.now.contract.now) asked.now.query row.old }
+        ensures told { result ≡ answer_in self.now asked.now (length row.old) }
+        ensures after { row.new ≡ row_in self.now asked.now row.old }
     {
         let length = row.len();
         let looked = query::looks_at(asked.contract, asked.query);
-        let parts = self.lend(looked.compartments());
+        let parts = self.lend(&looked);
         query::answer(asked.query, parts.as_slice(), row).ok_or(Refusal::ShortRow { length })
     }
 
@@ -50,8 +50,8 @@ impl Held<'_> {
         kept: Kept,
         row: &mut [u64],
     ) -> Result<Outcome, Refusal>
-        ensures told { result ≡ recalled kept (worked_out self.now.policy.now self.now.memory.now (view_of asked.now.contract.now) asked.now.query (length row.old)) }
-        ensures after { row.new ≡ recalled_row kept (worked_row self.now.policy.now self.now.memory.now (view_of asked.now.contract.now) asked.now.query row.old) row.old }
+        ensures told { result ≡ recalled kept (answer_in self.now asked.now (length row.old)) }
+        ensures after { row.new ≡ recalled_row kept (row_in self.now asked.now row.old) row.old }
     {
         match kept {
             Kept::Rows | Kept::Shared => self.again(asked, row),
@@ -65,8 +65,8 @@ impl Held<'_> {
 
     // Works rows out again, which examines none anew.
     fn again(&self, asked: &Asked, row: &mut [u64]) -> Result<Outcome, Refusal>
-        ensures told { result ≡ told_again (worked_out self.now.policy.now self.now.memory.now (view_of asked.now.contract.now) asked.now.query (length row.old)) }
-        ensures after { row.new ≡ worked_row self.now.policy.now self.now.memory.now (view_of asked.now.contract.now) asked.now.query row.old }
+        ensures told { result ≡ told_again (answer_in self.now asked.now (length row.old)) }
+        ensures after { row.new ≡ row_in self.now asked.now row.old }
     {
         let told = self.work_out(asked, row)?;
         Ok(unexamined(told.answered))

@@ -5,4 +5,4 @@ use Rattle.answering.proofs.held.Held.lend.Given as goal
 
 abbrev pub invariant-loop-compartment : goal.invariant-loop-compartment
 invariant-loop-compartment l =
-    map (λ x. x.now) l.parts.items ≡ parts_in l.self.policy.now l.self.memory.now (take l.compartment-index l.compartments)
+    map (λ x. x.now) l.parts.items ≡ parts_in l.self.policy.now l.self.memory.now (take l.compartment-index l.compartment-items)

@@ -4,4 +4,4 @@ use Rattle.answering.specs.Asked.{versions_in}
 use Rattle.answering.proofs.held.Held.versions.Given as goal
 
 abbrev pub invariant-loop-compartment : goal.invariant-loop-compartment
-invariant-loop-compartment l = l.versions.items ≡ versions_in l.self.policy.now l.self.memory.now (take l.compartment-index l.view)
+invariant-loop-compartment l = l.versions.items ≡ versions_in l.self.policy.now l.self.memory.now (take l.compartment-index l.compartment-items)

@@ -14,12 +14,11 @@ use Rattle.rows.specs.declared.KeyRange.{KeyRange}
 use Rattle.rows.specs.declared.Row.{Row}
 use Rattle.store.specs.declared.copying.counts.Counts.{Counts}
 use Rattle.store.specs.Memory.{part, with_part}
+pub use Rattle.policy.specs.Access.{length_told as opened_told}
 
--- memory is shorter than the policy asks for
+-- memory is shorter than the policy asks for; `opened_told` refuses it
 abbrev pub short : Policy → List ℕ → Bool
 short p memory = nat_lt (length memory) (memory_length p)
-
-pub use Rattle.policy.specs.Access.{length_told as opened_told}
 
 -- zeros as far as the policy asks for memory; what lies behind is not touched
 abbrev pub opened : Policy → List ℕ → List ℕ

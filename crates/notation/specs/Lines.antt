@@ -7,6 +7,7 @@ use Rattle.policy.specs.Numbers.{users_in, compartments_in, user_at}
 use Rattle.policy.specs.Views.{stands}
 use Rattle.query.specs.declared.Query.{Query}
 use Rattle.query.specs.declared.Query.TheVariants as query
+pub use Rattle.request.specs.Decoded.{then}
 use Rattle.request.specs.declared.Request.{Request}
 use Rattle.request.specs.declared.kinds.QueryKind.{QueryKind}
 use Rattle.request.specs.declared.kinds.QueryKind.TheVariants.{Rows, Total, Shared}
@@ -21,11 +22,6 @@ use Rattle.notation.specs.declared.names.Verb.{Verb}
 use Rattle.notation.specs.declared.names.Verb.TheVariants as verb
 use Rattle.notation.specs.declared.stages.Stage.{Stage}
 use Rattle.notation.specs.declared.stages.Stage.TheVariants as stage
-
--- what was read is handed on, a reason leaves
-abbrev pub then : {A B E : Type 0} → Result A E → (A → Result B E) → Result B E
-then (Ok a) f = f a
-then (Err e) f = Err e
 
 -- the name stands at the place
 abbrev pub named : Name → List ℕ → ℕ → Result Unit Reason

@@ -9,8 +9,9 @@ use crate::names::Name;
 use crate::requests::request_in;
 use crate::stages::{Stage, stage_of};
 use crate::users::user_in;
-use policy::Contract;
+use policy::{COMPARTMENTS, Contract, USERS};
 use request::Request;
+use wire::CAPACITY;
 
 // What a line adds to a trace.
 #[derive(Clone, Copy)]
@@ -20,11 +21,11 @@ pub(crate) enum Entry {
     Request(Request),
 }
 
-fn count_in(line: Line, name: Name, high: u64) -> Result<u64, Reason>
+fn count_in(line: Line, name: Name, high: usize) -> Result<u64, Reason>
     ensures { result ≡ count_said name high line.entry.bytes.now }
 {
     line.named(0, name)?;
-    let count = line.within(1, 1, high)?;
+    let count = line.within(1, 1, high as u64)?;
     line.ends(2)?;
     Ok(count)
 }
@@ -34,7 +35,7 @@ fn capacity_in(line: Line, compartment: usize) -> Result<u64, Reason>
 {
     line.named(0, Name::Capacity)?;
     line.next_number(1, compartment)?;
-    let capacity = line.within(2, 1, 64)?;
+    let capacity = line.within(2, 1, CAPACITY)?;
     line.ends(3)?;
     Ok(capacity)
 }
@@ -43,8 +44,8 @@ fn entry_at(line: Line, stage: Stage) -> Result<Entry, Reason>
     ensures { then result (λ e. Ok (adds e)) ≡ entry_at stage line.entry.bytes.now }
 {
     match stage {
-        Stage::Users => count_in(line, Name::Users, 32).map(Entry::Count),
-        Stage::Compartments => count_in(line, Name::Compartments, 16).map(Entry::Count),
+        Stage::Users => count_in(line, Name::Users, USERS).map(Entry::Count),
+        Stage::Compartments => count_in(line, Name::Compartments, COMPARTMENTS).map(Entry::Count),
         Stage::User { user, compartments } => user_in(line, user, compartments).map(Entry::User),
         Stage::Capacity { compartment } => capacity_in(line, compartment).map(Entry::Count),
         Stage::Requests => request_in(line).map(Entry::Request),

@@ -1,5 +1,5 @@
 // A line of a text: its words, and what stands at their places.
-ghost use Rattle.std.specs.Prelude.{◌≡◌, ◌≤◌, IfOk};
+ghost use Rattle.std.specs.Prelude.{◌≡◌, ◌+◌, ◌≤◌, IfOk};
 ghost use Rattle.std.specs.Str.{bytes_eq};
 ghost use Rattle.notation.specs.Lines.{ends, named, next_at, number_at, silent, verb_at, within};
 ghost use Rattle.notation.specs.Names.{spelled};
@@ -34,6 +34,13 @@ fn number_of(word: &[u8]) -> Option<u64>
         number = (10 * number + u64::from(*byte - b'0')).min(TOO_LARGE);
     }
     Some(number)
+}
+
+// The number by which the word at a place is told: from 1 on.
+fn ordinal(place: u8) -> usize
+    ensures { result ≡ place + 1 }
+{
+    usize::from(place) + 1
 }
 
 // A line's bytes. Its words count from 0; where none stands, the word is empty.
@@ -84,7 +91,7 @@ impl<'a> Line<'a> {
         ensures { result ≡ number_at self.entry.bytes.now place }
     {
         number_of(self.word(place)).ok_or(Reason::NoNumber {
-            word: usize::from(place) + 1,
+            word: ordinal(place),
         })
     }
 
@@ -98,7 +105,7 @@ impl<'a> Line<'a> {
             .contains(&number)
             .then_some(number)
             .ok_or(Reason::OutOfBounds {
-                word: usize::from(place) + 1,
+                word: ordinal(place),
             })
     }
 
@@ -119,7 +126,7 @@ impl<'a> Line<'a> {
             .is_empty()
             .then_some(())
             .ok_or(Reason::TooLong {
-                word: usize::from(place) + 1,
+                word: ordinal(place),
             })
     }
 }

@@ -9,18 +9,19 @@ use crate::entries::{Entry, entry_in};
 use crate::fault::{Fault, ReadError, Reason};
 use crate::line::Line;
 use crate::stages::{Stage, stage_of};
-use policy::Contract;
+use policy::{COMPARTMENTS, Contract};
 use std::alloc::AllocError;
 
 impl Trace {
-    // Adds what a user's line says: behind the view lies 0, up to sixteen places.
+    // Adds what a user's line says: behind the view lies 0, up to a place for each compartment.
     fn add_contract(&mut self, contract: Contract) -> Result<(), AllocError>
         ensures { OnOk result (said_of self.new ≡ added (said_of self.old) (adds (Entry.User contract))) }
     {
         let view = contract.view();
         self.numbers.push(view.len() as u64)?;
         self.numbers.extend_from_slice(view)?;
-        self.numbers.extend_from_slice(&[0; 16][view.len()..])?;
+        self.numbers
+            .extend_from_slice(&[0; COMPARTMENTS][view.len()..])?;
         Ok(self.numbers.push(contract.writes())?)
     }
 

@@ -1,20 +1,22 @@
 // The request that a line says.
-ghost use Rattle.std.specs.Prelude.{◌≡◌, ◌<◌, ◌≤◌, IfOk};
+ghost use Rattle.std.specs.Prelude.{◌≡◌, ◌-◌, ◌<◌, IfOk};
 ghost use Rattle.notation.specs.Lines.{asked, key_at, query_said, range_at, request_said, within};
 
 use crate::fault::Reason;
 use crate::line::Line;
 use crate::names::Verb;
+use policy::{COMPARTMENTS, USERS};
 use query::Query;
 use request::{QueryKind, Request};
 use rows::{KeyRange, Row};
 
-// The number there, from 0 up to this one.
-fn up_to<const HIGH: u64>(line: Line, place: u8) -> Result<usize, Reason>
-    ensures value { result ≡ within 0 HIGH line.entry.bytes.now place }
-    ensures bound { IfOk result (λ n. n ≤ HIGH) }
+// The number there, if it is below the bound: that of a user or a compartment.
+fn index_at(line: Line, place: u8, bound: usize) -> Result<usize, Reason>
+    requires { 0 < bound }
+    ensures value { result ≡ within 0 (bound - 1) line.entry.bytes.now place }
+    ensures below { IfOk result (λ n. n < bound) }
 {
-    let number = line.within(place, 0, HIGH)?;
+    let number = line.within(place, 0, bound as u64 - 1)?;
     Ok(number as usize)
 }
 
@@ -22,7 +24,7 @@ fn up_to<const HIGH: u64>(line: Line, place: u8) -> Result<usize, Reason>
 fn key_at(line: Line, place: u8) -> Result<u32, Reason>
     ensures { result ≡ key_at line.entry.bytes.now place }
 {
-    let key = up_to::<0xffff_ffff>(line, place)?;
+    let key = line.within(place, 0, u64::from(u32::MAX))?;
     Ok(key as u32)
 }
 
@@ -40,7 +42,7 @@ fn range_at(line: Line, place: u8) -> Result<KeyRange, Reason>
 pub(crate) fn request_in(line: Line) -> Result<Request, Reason>
     ensures { result ≡ request_said line.entry.bytes.now }
 {
-    let user = up_to::<31>(line, 0)?;
+    let user = index_at(line, 0, USERS)?;
     let verb = line.verb(1)?;
     asked(line, user, verb)
 }
@@ -66,7 +68,7 @@ fn asked(line: Line, user: usize, verb: Verb) -> Result<Request, Reason>
             Ok(Request::Delete { user, key })
         }
         Verb::Copy => {
-            let compartment = up_to::<15>(line, 2)?;
+            let compartment = index_at(line, 2, COMPARTMENTS)?;
             let range = range_at(line, 3)?;
             Ok(Request::Copy {
                 user,
@@ -89,8 +91,8 @@ fn query_in(line: Line, kind: QueryKind) -> Result<Query, Reason>
         QueryKind::Rows => range_at(line, 2).map(|range| Query::Rows { range }),
         QueryKind::Total => range_at(line, 2).map(|range| Query::Total { range }),
         QueryKind::Shared => {
-            let a = up_to::<15>(line, 2)?;
-            let b = up_to::<15>(line, 3)?;
+            let a = index_at(line, 2, COMPARTMENTS)?;
+            let b = index_at(line, 3, COMPARTMENTS)?;
             let range = range_at(line, 4)?;
             Ok(Query::Shared { a, b, range })
         }

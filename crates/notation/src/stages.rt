@@ -2,6 +2,8 @@
 ghost use Rattle.notation.specs.Lines.{behind_counts, single_numbers, stage_of};
 ghost use Rattle.std.specs.Prelude.{◌≡◌, ◌≤◌};
 
+use policy::{COUNTS, USER, USERS};
+
 // What comes next. The order of a text's lines is its format, and the numbers so far say where in it a line stands: so it is told anew, and no step is kept.
 #[derive(Clone, Copy)]
 pub(crate) enum Stage {
@@ -19,10 +21,10 @@ pub(crate) fn single_numbers(numbers: &[u64]) -> usize
 {
     // A missing number counts as 0.
     let users = numbers.first().copied().unwrap_or(0);
-    if users > 32 {
-        2
+    if users > USERS as u64 {
+        COUNTS
     } else {
-        2 + 18 * users as usize
+        COUNTS + USER * users as usize
     }
 }
 
@@ -45,7 +47,7 @@ fn behind_counts(count: usize, single: usize, compartments: u64) -> Stage
 {
     if count < single {
         return Stage::User {
-            user: (count - 2) / 18,
+            user: (count - COUNTS) / USER,
             compartments,
         };
     }

@@ -6,16 +6,16 @@ ghost use Rattle.notation.specs.Said.{seen_of};
 use crate::fault::Reason;
 use crate::line::Line;
 use crate::names::Name;
-use policy::{ArrayList, Contract};
+use policy::{ArrayList, COMPARTMENTS, Contract};
 
 // The numbers behind `sees`, up to the word `writes`.
 // By place and not over the words: where the line ends too soon, the word that is missing is told as no number.
-fn view_in(line: Line) -> Result<ArrayList<u64, 16>, Reason>
+fn view_in(line: Line) -> Result<ArrayList<u64, COMPARTMENTS>, Reason>
     ensures value { then result (λ view. Ok view.items) ≡ view_from 16 line.entry.bytes.now 3 }
     ensures few { IfOk result (λ view. length view.items ≤ 16) }
 {
     let mut view = ArrayList::new(0);
-    for place in 3..19 {
+    for place in 3..3 + COMPARTMENTS as u8 {
         if line.is_named(place, Name::Writes) {
             return Ok(view);
         }

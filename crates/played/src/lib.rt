@@ -15,8 +15,8 @@ use std::io;
 use std::process::ExitCode;
 pub use stop::Stop;
 
-// In a trace capacities are at most 64.
-pub const MOST: u64 = 64;
+// The largest capacity in a trace.
+pub const MOST: u64 = wire::CAPACITY;
 
 // What is printed of a trace, and why it was refused or broken off, if it was.
 #[derive(Debug, Drop)]

@@ -12,8 +12,8 @@ use Rattle.request.specs.declared.kinds.Kind.{Kind}
 use Rattle.request.specs.declared.kinds.QueryKind.{QueryKind}
 use Rattle.request.specs.Kinds.{kind_numbered, query_numbered}
 
--- a value is handed on, a refusal leaves
-abbrev pub then : {A B : Type 0} → Result A Refusal → (A → Result B Refusal) → Result B Refusal
+-- a value is handed on, an error leaves
+abbrev pub then : {A B E : Type 0} → Result A E → (A → Result B E) → Result B E
 then (Ok a) f = f a
 then (Err e) f = Err e
 

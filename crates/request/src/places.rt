@@ -5,10 +5,6 @@ ghost use Rattle.request.specs.Decoded.{ReadAs, below, number_at, range_at};
 use policy::Refusal;
 use rows::KeyRange;
 
-pub(crate) const USERS: u64 = 32;
-
-pub(crate) const COMPARTMENTS: u64 = 16;
-
 // The numbers of a request.
 #[derive(Clone, Copy)]
 pub(crate) struct Numbers<'a> {
@@ -36,11 +32,11 @@ impl Numbers<'_> {
     }
 
     // The number there, if it is below the bound: that of a user or a compartment.
-    pub(crate) fn index(self, place: usize, bound: u64) -> Result<usize, Refusal>
+    pub(crate) fn index(self, place: usize, bound: usize) -> Result<usize, Refusal>
         ensures { result ≡ below bound self.entry.all.now place }
     {
         let number = self.number(place)?;
-        (number < bound)
+        (number < bound as u64)
             .then_some(number as usize)
             .ok_or(Refusal::NoRequest { place })
     }

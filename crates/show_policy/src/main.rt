@@ -36,8 +36,7 @@ where
 {
     let mut bytes = Vec::new(rt.alloc());
     rt.stdin().read_to_end(&mut bytes)?;
-    // Capacities as in a trace that is played. The number stands in `played` too, which this program goes without: it plays nothing.
-    match wire::read_policy(bytes.as_slice(), 64) {
+    match wire::read_policy(bytes.as_slice(), wire::CAPACITY) {
         Ok(policy) => {
             let text = overview(rt.alloc(), &policy)?;
             rt.print(text.as_str())?;

@@ -19,6 +19,7 @@ pub use item::Next;
 pub use laws::{
     policy_round_trip_stands, refused_at_place_stands, request_round_trip_stands, request_stands,
 };
+pub use policies::CAPACITY;
 use policies::{MOST_NUMBERS, policy_layout};
 use policy::{Policy, Refusal};
 use requests::{decode_by, fours, place_at_fault, request_layout};

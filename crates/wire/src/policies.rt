@@ -4,24 +4,28 @@ ghost use Rattle.wire.specs.PolicyNumbers.{policy_layout};
 
 use crate::layout::Layout;
 use crate::numbers::byte_at;
+use policy::{COMPARTMENTS, COUNTS, USER, USERS};
 
-// The numbers of the largest policy: two, 18 for each of 32 users, one for each of 16 compartments.
-pub(crate) const MOST_NUMBERS: usize = 2 + 18 * 32 + 16;
+// The rows of a compartment in a trace, at most.
+pub const CAPACITY: u64 = 64;
+
+// The numbers of the largest policy: the counts, those of each user, and a capacity for each compartment.
+pub(crate) const MOST_NUMBERS: usize = COUNTS + USER * USERS + COMPARTMENTS;
 
 // Counts that are out of bounds are read no further: no policy has them.
 pub(crate) fn policy_layout(bytes: &[u8]) -> Layout
     ensures value { result ≡ policy_layout bytes.now }
     ensures few { result.single + result.wide ≤ 594 }
 {
-    let users = byte_at(bytes, 0);
+    let users = usize::from(byte_at(bytes, 0));
     let compartments = byte_at(bytes, 1);
-    let (single, wide) = if users > 32 || compartments > 16 {
-        (2, 0)
+    let (single, wide) = if users > USERS || usize::from(compartments) > COMPARTMENTS {
+        (COUNTS, 0)
     } else {
-        (2 + 18 * u16::from(users), compartments)
+        (COUNTS + USER * users, compartments)
     };
     Layout {
-        single,
+        single: single as u16,
         wide,
         width: 2,
     }

@@ -125,7 +125,7 @@ reads_rules xs p r =
 
 implies : (x y : Bool) → Decides (not x || y) (x ≡ true → y ≡ true)
 implies true true = (λ _ _. refl, λ _. refl)
-implies true false = (λ e. absurd (let z : ◌≡◌ {A = ℕ} 0 1 = cc in omega arith), λ f. f refl)
+implies true false = (λ e. absurd cc, λ f. f refl)
 implies false y = (λ _ e. cc, λ _. refl)
 
 pub flows_both_ways : FlowsBothWays

@@ -117,14 +117,17 @@ impl Parts<'_> {
         ensures told { result ≡ shared_outcome range self.now (length row.old) }
         ensures after { row.new ≡ shared_row range self.now row.old }
     {
-        match self.parts {
-            [a, b] if Parts { parts: &[a] }.fit(row.len()) => Some(write_shared(a, b, range, row)),
-            [_, _] => None,
-            _ => Some(Outcome {
+        let [a, b] = self.parts else {
+            return Some(Outcome {
                 answered: Answered::NotSeen,
                 examined: 0,
-            }),
+            });
+        };
+        let lent = Parts { parts: &[a] };
+        if !lent.fit(row.len()) {
+            return None;
         }
+        Some(write_shared(a, b, range, row))
     }
 }
 

@@ -1,8 +1,8 @@
 -- Entries in memory: looking up and keeping are the same on the list of entries as on the numbers that hold it.
-use Rattle.std.proofs.Common.{◌≡◌, ℕ, zero, suc, ◌+◌, ◌-◌, ◌*◌, ◌/◌, ◌≤◌, Bool, true, false, cond, ◌&&◌, ltb, List, [], ◌∷◌, ◌++◌, reverse, length, get_or, take, drop, replicate, Some, None, Option, sym, refl, ap, ◌∙◌, inl, inr, arith}
+use Rattle.std.proofs.Common.{◌≡◌, ℕ, zero, suc, ◌+◌, ◌-◌, ◌*◌, ◌/◌, ◌≤◌, Bool, true, false, cond, ◌&&◌, ltb, List, [], ◌∷◌, ◌++◌, reverse, length, get_or, take, drop, replicate, Some, None, Option, sym, refl, ap, ◌∙◌, arith}
 use lib.Seq.{take-append-add}
 use Rattle.std.proofs.lemmas.List.{append-nil, append_assoc, take_all, take_at, take-take, take-append-le, take-replicate, drop_at, drop_all, drop-append-le, drop-replicate, length-take, length-take-le, length-drop, length-append, length-replicate, get_or-append-add, reverse-append}
-use Rattle.std.proofs.lemmas.Bool.{cases_lt, lt-ltb, le-ltb}
+use Rattle.std.proofs.lemmas.Bool.{le-ltb}
 use Rattle.std.proofs.lemmas.Bool.Decides.{nat_tests}
 use Rattle.std.specs.Option.{option_or}
 use Rattle.query.specs.declared.Query.{Query}
@@ -125,23 +125,6 @@ look_up_flat query vs es z =
     rw n (found_in_flat query vs (z / 24) es (replicate z 0) (found_in_zeros query vs (z / 24) z (omega arith)))
 
 -- KEEPING
-
-pub length_keep : (query : Query) (versions : List ℕ) (kept : Kept) (xs : List ℕ) → length (keep_in query versions kept xs) ≡ length xs
-length_keep query vs kept xs = elim (cases_lt (length xs) 24) [
-  | inl h ↦ rw (lt-ltb (length xs) 24 h)
-  | inr h ↦
-      let all = length xs / 24 * 24 in
-      let place = place_numbers query vs kept in
-      rw (le-ltb (length xs) 24 h)
-      (omega (
-        arith,
-        length-append place (take (all - 24) xs ++ drop all xs),
-        length-append (take (all - 24) xs) (drop all xs),
-        length_place query vs kept,
-        length-take (all - 24) xs,
-        length-drop all xs,
-      ))
-]
 
 cut : (m z : ℕ) (es : List Entry) → 24 * m ≤ 24 * length es + z → take (24 * m) (flat es ++ replicate z 0) ≡ held m (take m es)
 cut zero z es h = refl

@@ -1,3 +1,2 @@
 -- Lemmas on a compartment's part of memory.
-pub mod Lent
 pub mod Held

@@ -83,7 +83,3 @@ module _ (range : KeyRange) (ds : List Row) (u : Rising ds) where
       ap (put_all (rows_in range ss)) three_parts
       ∙ put_all_behind (rows_in range ss) (rows_before range ds) (rows_in range ds ++ rows_above range ds) fronts
       ∙ ap (λ l. rows_before range ds ++ l) (put_all_front (rows_in range ss) (rows_in range ds) (rows_above range ds) aboves)
-
--- a range lies behind the place of its first key, of any content
-pub range_part_within : (range : KeyRange) (rows : List ℕ) → length (range_part range rows) ≤ length rows - 2 * position range.from rows
-range_part_within range rows = simp (length-take, length-drop) (omega arith)

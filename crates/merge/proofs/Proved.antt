@@ -60,6 +60,27 @@ module _ (m : List ℕ) (source destination : ℕ) (ss ds bs : List Row) (us : R
       rw (n, stands_behind ds bs destination m stands_d)
       (append_assoc (take (destination + 2 * length (put_all ss ds)) m) (flat bs) (drop (destination + 2 * length (put_all ss ds) + 2 * length bs) m))
 
+  it_merges : merged_into (copying source ss destination ds bs) m ≡ rows_at destination (put_all ss ds ++ bs) m
+  it_merges =
+      let n = all_are in
+      let at = destination + 2 * length (put_all ss ds) in
+      let room : at + 2 * length bs ≤ length m = omega arith in
+      let two : destination + 2 * length (put_all ss ds ++ bs) ≡ at + 2 * length bs = omega arith in
+      let fewer = no_fewer ss ds in
+      let ready : Ready source destination (length bs) (length (put_all ss ds)) (rows_at at bs m) ss ds = record {
+        source_rises = us;
+        destination_rises = ud;
+        count_is = refl;
+        source_stands = stands_apart m at bs room ss source stands_s (elim apart [ inl h ↦ inl (omega arith) | inr h ↦ inr (omega arith) ]);
+        destination_stands = stands_apart m at bs room ds destination (stands_front ds bs destination m stands_d) (inl (omega arith));
+        room = rw (length_rows_at m at bs room) (omega arith);
+        apart = elim apart [ inl h ↦ inl h | inr h ↦ inr (omega arith) ];
+      } in
+      rw (it_fits, spread_is)
+      (merges source destination (length bs) (length (put_all ss ds)) (rows_at at bs m) ss ds ready
+      ∙ rw (take_rows_at m at bs room destination (omega arith), drop_rows_at m at bs room, two, flat_append (put_all ss ds) bs)
+      (ap (λ l. take destination m ++ l) (sym (append_assoc (flat (put_all ss ds)) (flat bs) (drop (at + 2 * length bs) m)))))
+
 pub merge_is_put_all : MergeIsPutAll
 merge_is_put_all m source destination ss ds bs us ud stands_s stands_d within_s within_d apart = (
   it_fits m source destination ss ds bs us ud stands_s stands_d within_s within_d apart,

@@ -86,12 +86,3 @@ by_first bytes (next.End place) = rw (drop_all (length bytes) bytes (omega arith
 pub first_on : (bytes : List ℕ) → length bytes ≢ 0 →
     outcomes (length bytes) bytes ≡ (first_by (next_in bytes) (length bytes)).0 ∷ all (drop (first_by (next_in bytes) (length bytes)).1 bytes)
 first_on bytes h = one_on (length bytes - 1) bytes (omega arith) ∙ by_first bytes (next_in bytes)
-
--- what lies behind n bytes, where there may be fewer
-pub cut_behind : (bytes : List ℕ) (n k : ℕ) → k ≡ min n (length bytes) → take (length bytes - k) (drop k bytes) ≡ drop n bytes
-cut_behind bytes n k e =
-    take_rest bytes k
-    ∙ elim (cases_lt n (length bytes)) [
-      | inl h ↦ let s : k ≡ n = omega arith in rw s refl
-      | inr h ↦ drop_all k bytes (omega arith) ∙ sym (drop_all n bytes h)
-    ]

@@ -1,3 +1,4 @@
+-- Each turn reads the next line, and behind the last the text has to be whole.
 use Rattle.std.proofs.Common.{length, length-append, rules, tests, ◌∙◌, arith}
 use Rattle.std.proofs.lemmas.Iterator.Consumers.{YieldsList-turn, YieldsList-end}
 use Rattle.std.proofs.lemmas.Result.{err_from_is_err_and}

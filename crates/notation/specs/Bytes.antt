@@ -1,5 +1,5 @@
 -- The bytes of a trace: each number in as many bytes as its place has, low byte first.
-use Rattle.std.specs.Prelude.{ℕ, List, [], ◌∷◌, ◌++◌, take, drop}
+use Rattle.std.specs.Prelude.{ℕ, List, ◌++◌, take, drop}
 use Rattle.std.specs.List.{flat_map}
 use Rattle.request.specs.declared.Request.{Request}
 use Rattle.request.specs.Format.{numbers_of}

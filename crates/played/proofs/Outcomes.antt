@@ -1,5 +1,5 @@
 -- What comes of the bytes of a trace: one item on.
-use Rattle.std.proofs.Common.{◌≡◌, ◌≢◌, ℕ, zero, suc, ◌-◌, ◌<◌, ◌≤◌, min, eqb, ltb, List, [], ◌∷◌, length, take, drop, Some, None, Ok, Err, Option, Result, IfSome, sym, refl, ◌∙◌, inl, inr, lit<, arith}
+use Rattle.std.proofs.Common.{◌≡◌, ◌≢◌, ℕ, zero, suc, ◌-◌, ◌<◌, ◌≤◌, eqb, ltb, List, [], ◌∷◌, length, drop, Some, None, Ok, Err, Option, Result, IfSome, refl, ◌∙◌, inl, inr, lit<, arith}
 use Rattle.played.specs.Items.{first_by, outcomes, outcomes_by}
 use Rattle.played.specs.declared.items.Item.{Item}
 use Rattle.policy.specs.declared.refusal.Refusal.{Refusal}
@@ -8,8 +8,8 @@ use Rattle.request.specs.declared.kinds.Kind.{Kind}
 use Rattle.request.specs.declared.kinds.Kind.TheVariants.{Write, Delete, Copy, Query}
 use Rattle.request.specs.declared.kinds.QueryKind.{QueryKind}
 use Rattle.request.specs.declared.kinds.QueryKind.TheVariants.{Rows, Total, Shared}
-use Rattle.std.proofs.lemmas.Bool.{cases_Bool, cases_lt, cond-true, cond-false, eq-eqb, ne_eqb, ltb-false, ltb-true}
-use Rattle.std.proofs.lemmas.List.{drop_all, length-drop, take_rest}
+use Rattle.std.proofs.lemmas.Bool.{cases_Bool, cond-true, cond-false, eq-eqb, ne_eqb, ltb-false, ltb-true}
+use Rattle.std.proofs.lemmas.List.{drop_all, length-drop}
 use Rattle.wire.specs.Bytes.{size}
 use Rattle.wire.specs.NextRequest.{next_in, next_by, whole, kind_layout, kind_in, query_kind_in, request_layout, Takes}
 use Rattle.wire.specs.declared.item.Next.{Next}

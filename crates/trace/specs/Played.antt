@@ -1,5 +1,5 @@
 -- What playing a trace prints, and how it ends.
-use Rattle.std.specs.Prelude.{ℕ, List, [], ◌∷◌, ◌++◌, Some, None, Option}
+use Rattle.std.specs.Prelude.{ℕ, List, [], Some, None, Option}
 use Rattle.std.specs.List.{flat_map}
 use Rattle.played.specs.Items.{from, items_of}
 use Rattle.played.specs.declared.items.Item.{Item}

@@ -27,6 +27,7 @@ use Rattle.notation.specs.declared.stages.Stage.TheVariants as stage
 use Rattle.notation.proofs.Oks.{Stands, then_ok, count_ok, capacity_ok, user_ok, request_ok}
 use Rattle.notation.proofs.Good.{Good, Fits, stage_fits, all_append, less_more, one_user, two_counts, one_more_user, one_more_capacity}
 
+-- behind the users the numbers are no longer a byte each
 single_is : (ns : List ℕ) → Good ns → 1 < length ns → single_numbers ns ≡ user_at (users_in ns)
 single_is ns g two = cond-false (ltb 32 (users_in ns)) _ _ (le-ltb 32 (users_in ns) (g.users (omega arith)).1)
 

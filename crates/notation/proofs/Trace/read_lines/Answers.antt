@@ -11,9 +11,11 @@ use Rattle.notation.proofs.Trace.read_lines.Given as given
 use Rattle.notation.proofs.Trace.read_lines.Goals as goal
 use Rattle.notation.proofs.Trace.read_lines.Goals.{After-into_iter-i-iterator, In-Some, In-None}
 
+-- the lines of the text come one by one
 come : (c : After-into_iter-i-iterator) → YieldsList {B = ℕ × List ℕ} (given.iterator-loop-i).next_gives (λ p. (p.0, p.1.now)) c.into_iter-i-iterator.result (enumerate_from 0 (lines c.args.text.now))
 come c = lines_yielded _ c.args.text.now c.into_iter-i-iterator.ensures.into_iter_gives c.enumerate-i-items.ensures.source c.enumerate-i-items.ensures.count c.split.ensures.rest c.split.ensures.done c.split.ensures.closure (λ x b q k. search (rules, tests))
 
+-- the one that comes at a turn
 turn : (c : In-Some) →
     (length c.loop-i.yielded < length (enumerate_from 0 (lines c.args.text.now)))
     × ◌≡◌ {A = ℕ × List ℕ} (c.in-Some.i, c.in-Some.bytes.now) (get_or (enumerate_from 0 (lines c.args.text.now)) (length c.loop-i.yielded) (c.in-Some.i, c.in-Some.bytes.now))
@@ -22,6 +24,7 @@ turn c =
     (come (goal.at.In-Some c).After-into_iter-i-iterator)
     c.loop-i.yielded c.loop-i.i-iterator c.loop-i.yielded_by c.next.result c.next.new.self (c.in-Some.i, c.in-Some.bytes) c.in-Some.is c.next.ensures.steps
 
+-- at the end all have come
 all_read : (c : In-None) → length c.loop-i.yielded ≡ length (enumerate_from 0 (lines c.args.text.now))
 all_read c =
     (YieldsList-end

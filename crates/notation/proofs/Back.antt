@@ -2,27 +2,34 @@
 use Rattle.std.proofs.Common.{◌≡◌, ℕ, zero, suc, ◌+◌, ◌-◌, ◌*◌, ◌/◌, ◌%◌, ◌^◌, ◌<◌, ◌≤◌, Bool, true, false, ltb, List, [], ◌∷◌, ◌++◌, length, get_or, take, drop, None, Ok, Err, Result, sym, refl, ap, ◌∙◌, subst, inl, inr, append-nil, arith}
 use Rattle.std.proofs.lemmas.List.{length-take-le, length-drop, take-append-drop, drop_at, nil_from_length}
 use Rattle.std.proofs.lemmas.Bool.{cond-true, cond-false, cases_Bool, cases_lt, cases_eq, or_from, not_from_true, lt-leb, le-leb, le-ltb, and_from, ne_eqb, eq-eqb}
+use Rattle.std.specs.List.{AllByRecursion}
 use Rattle.policy.specs.Numbers.{users_in, compartments_in, user_at, bad_view, at_fault, within, places, first, judged}
 use Rattle.query.specs.declared.Query.TheVariants as query
 use Rattle.request.specs.declared.Request.{Request}
 use Rattle.request.specs.declared.Request.TheVariants as request
 use Rattle.request.specs.Format.{numbers_of, WithinBounds}
+use Rattle.request.proofs.Reading.{ok_same}
 use Rattle.wire.specs.Bytes.{numbers_in, size}
 use Rattle.wire.specs.PolicyNumbers.{policy_layout}
 use Rattle.wire.specs.Written as wire
 use Rattle.wire.specs.Written.{written, bytes_of, bytes_first, AllLess}
+use Rattle.wire.proofs.Standing.{small_behind}
 use Rattle.wire.proofs.Writing.{request_round_trip, policy_round_trip}
 use Rattle.notation.specs.Bytes.{policy_bytes, request_bytes, requests_bytes}
 use Rattle.notation.specs.Laws.{Hold, ReadAs, ReadsBack}
-use Rattle.notation.specs.Lines.{single_numbers, silent, stage_of, count_said, capacity_said, user_said, request_said}
-use Rattle.notation.specs.Said.{Said, nothing, added, of_request, entry_at, entry_said, line_said, whole_at, whole, at_line, lines_said}
+use Rattle.notation.specs.Lines.{then, single_numbers, silent, stage_of, count_said, capacity_said, user_said, request_said}
+use Rattle.notation.specs.Said.{Said, nothing, added, contract_numbers, of_numbers, of_request, entry_at, entry_said, line_said, whole_at, whole, at_line, lines_said}
 use Rattle.notation.specs.Words.{lines}
 use Rattle.notation.specs.declared.fault.Reason.{Reason}
 use Rattle.notation.specs.declared.names.Name.TheVariants as name
 use Rattle.notation.specs.declared.stages.Stage.{Stage}
 use Rattle.notation.specs.declared.stages.Stage.TheVariants as stage
-use Rattle.notation.proofs.Oks.{Stands, then_ok, ok_same, no_ok, count_ok, capacity_ok, user_ok, request_ok}
-use Rattle.notation.proofs.Good.{Good, Fits, stage_fits, less_more, one_user, two_counts, one_more_user, one_more_capacity}
+use Rattle.notation.proofs.Oks.{Stands, then_ok, count_ok, capacity_ok, user_ok, request_ok}
+use Rattle.notation.proofs.Good.{Good, Fits, stage_fits, all_append, less_more, one_user, two_counts, one_more_user, one_more_capacity}
+
+-- behind the users the numbers are no longer a byte each
+single_is : (ns : List ℕ) → Good ns → 1 < length ns → single_numbers ns ≡ user_at (users_in ns)
+single_is ns g two = cond-false (ltb 32 (users_in ns)) _ _ (le-ltb 32 (users_in ns) (g.users (omega arith)).1)
 
 -- the numbers that a line adds are good behind good ones
 nothing_more : (ns : List ℕ) (e : Said) → e.numbers ≡ [] → Good ns → Good (ns ++ e.numbers)
@@ -45,8 +52,7 @@ grows stage.Compartments (u ∷ []) line e f g h =
 grows (stage.User user compartments) ns line e f g h =
     let read = then_ok (user_said user compartments line) _ e h in
     let is = ok_same _ e read.2 in
-    let b = (g.users (omega (arith, f.0))).1 in
-    let single : single_numbers ns ≡ user_at (users_in ns) = cond-false (ltb 32 (users_in ns)) _ _ (le-ltb 32 (users_in ns) b) in
+    let single = single_is ns g f.0 in
     let short = f.1 in
     elim (g.shape f.0) [
       | inl s ↦ subst (λ (x : Said). Good (ns ++ x.numbers)) is
@@ -56,8 +62,7 @@ grows (stage.User user compartments) ns line e f g h =
 grows (stage.Capacity compartment) ns line e f g h =
     let read = then_ok (capacity_said compartment line) _ e h in
     let is = ok_same _ e read.2 in
-    let b = (g.users (omega (arith, f.0))).1 in
-    let single : single_numbers ns ≡ user_at (users_in ns) = cond-false (ltb 32 (users_in ns)) _ _ (le-ltb 32 (users_in ns) b) in
+    let single = single_is ns g f.0 in
     let long = f.1 in
     let low = f.2 in
     let c : ℕ = length ns - user_at (users_in ns) in
@@ -67,27 +72,25 @@ grows stage.Requests ns line e f g h =
     let read = then_ok (request_said line) _ e h in
     subst (λ (x : Said). Good (ns ++ x.numbers)) (ok_same _ e read.2) (nothing_more ns (of_request read.0) refl g)
 
-abbrev AllWithin : List Request → Type 0
-AllWithin [] = Unit {0}
-AllWithin (q ∷ qs) = WithinBounds q × AllWithin qs
+-- a line of the policy asks for nothing
+asks_nothing : {A : Type 0} (r : Result A Reason) (numbers : A → List ℕ) (e : Said) → then r (λ a. Ok (of_numbers (numbers a))) ≡ Ok e →
+    AllByRecursion WithinBounds e.requests
+asks_nothing r numbers e h =
+    let t = then_ok r _ e h in subst (λ (x : Said). AllByRecursion WithinBounds x.requests) (ok_same _ e t.2) tt
 
-within_append : (qs rs : List Request) → AllWithin qs → AllWithin rs → AllWithin (qs ++ rs)
-within_append [] rs a b = b
-within_append (q ∷ qs) rs a b = (a.0, within_append qs rs a.1 b)
-
-asks : (s : Stage) (line : List ℕ) (e : Said) → entry_at s line ≡ Ok e → AllWithin (e.requests)
-asks stage.Users line e h = let t = then_ok (count_said name.Users 32 line) _ e h in subst (λ (x : Said). AllWithin (x.requests)) (ok_same _ e t.2) tt
-asks stage.Compartments line e h = let t = then_ok (count_said name.Compartments 16 line) _ e h in subst (λ (x : Said). AllWithin (x.requests)) (ok_same _ e t.2) tt
-asks (stage.User user compartments) line e h = let t = then_ok (user_said user compartments line) _ e h in subst (λ (x : Said). AllWithin (x.requests)) (ok_same _ e t.2) tt
-asks (stage.Capacity compartment) line e h = let t = then_ok (capacity_said compartment line) _ e h in subst (λ (x : Said). AllWithin (x.requests)) (ok_same _ e t.2) tt
+asks : (s : Stage) (line : List ℕ) (e : Said) → entry_at s line ≡ Ok e → AllByRecursion WithinBounds e.requests
+asks stage.Users line e h = asks_nothing (count_said name.Users 32 line) (λ n. n ∷ []) e h
+asks stage.Compartments line e h = asks_nothing (count_said name.Compartments 16 line) (λ n. n ∷ []) e h
+asks (stage.User user compartments) line e h = asks_nothing (user_said user compartments line) contract_numbers e h
+asks (stage.Capacity compartment) line e h = asks_nothing (capacity_said compartment line) (λ n. n ∷ []) e h
 asks stage.Requests line e h =
     let t = then_ok (request_said line) _ e h in
-    subst (λ (x : Said). AllWithin (x.requests)) (ok_same _ e t.2) (request_ok line t.0 t.1, tt)
+    subst (λ (x : Said). AllByRecursion WithinBounds x.requests) (ok_same _ e t.2) (request_ok line t.0 t.1, tt)
 
 -- what lines say is within its bounds
 record Sound (said : Said) : Type 0 where
   numbers : Good said.numbers
-  requests : AllWithin said.requests
+  requests : AllByRecursion WithinBounds said.requests
 
 nothing_sound : Sound nothing
 nothing_sound = record {
@@ -109,11 +112,11 @@ entry_sound said line e s h =
           let is = ok_same nothing e (rw t at h) in
           subst (λ (x : Said). Sound (added said x)) is (record {
             numbers = nothing_more said.numbers nothing refl s.numbers;
-            requests = within_append said.requests [] s.requests tt;
+            requests = all_append WithinBounds said.requests [] s.requests tt;
           })
       | inr t ↦ let read = rw t at h in record {
         numbers = grows (stage_of said.numbers) said.numbers line e (stage_fits said.numbers) s.numbers read;
-        requests = within_append said.requests (e.requests) s.requests (asks (stage_of said.numbers) line e read);
+        requests = all_append WithinBounds said.requests (e.requests) s.requests (asks (stage_of said.numbers) line e read);
       }
     ]
 
@@ -124,13 +127,13 @@ line_sound said more line s h =
 
 at_line_ok : (n : ℕ) (r : Result Said Reason) (said : Said) → at_line n r ≡ Ok said → r ≡ Ok said
 at_line_ok n (Ok x) said e = ap (λ (y : Said). Ok y) (ok_same x said e)
-at_line_ok n (Err reason) said e = no_ok _ _ said e
+at_line_ok n (Err reason) said e = absurd cc
 
 whole_ok : (s : Stage) (said more : Said) → whole_at s said ≡ Ok more → (s ≡ stage.Requests) × (said ≡ more)
-whole_ok stage.Users said more e = no_ok _ _ more e
-whole_ok stage.Compartments said more e = no_ok _ _ more e
-whole_ok (stage.User user compartments) said more e = no_ok _ _ more e
-whole_ok (stage.Capacity compartment) said more e = no_ok _ _ more e
+whole_ok stage.Users said more e = absurd cc
+whole_ok stage.Compartments said more e = absurd cc
+whole_ok (stage.User user compartments) said more e = absurd cc
+whole_ok (stage.Capacity compartment) said more e = absurd cc
 whole_ok stage.Requests said more e = (refl, ok_same said more e)
 
 lines_sound : (n : ℕ) (said more : Said) (ls : List (List ℕ)) → Sound said → lines_said n said ls ≡ Ok more → Sound more × (stage_of more.numbers ≡ stage.Requests)
@@ -204,10 +207,10 @@ bytes_same [] h = refl
 bytes_same (x ∷ xs) h =
     let low = h.0 in let same : x % 256 ≡ x = omega arith in rw (same, bytes_same xs h.1) refl
 
-less_front : (n bound : ℕ) (xs : List ℕ) → AllLess bound xs → AllLess bound (take n xs) × AllLess bound (drop n xs)
-less_front zero bound xs h = (tt, h)
-less_front (suc n) bound [] h = (tt, tt)
-less_front (suc n) bound (x ∷ xs) h = let r = less_front n bound xs h.1 in ((h.0, r.0), r.1)
+less_front : (n bound : ℕ) (xs : List ℕ) → AllLess bound xs → AllLess bound (take n xs)
+less_front zero bound xs h = tt
+less_front (suc n) bound [] h = tt
+less_front (suc n) bound (x ∷ xs) h = (h.0, less_front n bound xs h.1)
 
 -- the policy's bytes are those that the reader of bytes knows
 module _ (u c : ℕ) (rest : List ℕ) (g : Good (u ∷ c ∷ rest)) (long : length (u ∷ c ∷ rest) ≡ user_at u + c) where
@@ -221,11 +224,11 @@ module _ (u c : ℕ) (rest : List ℕ) (g : Good (u ∷ c ∷ rest)) (long : len
   few = (g.users (omega arith)).1
 
   single : single_numbers (u ∷ c ∷ rest) ≡ suc (suc (18 * u))
-  single = cond-false (ltb 32 u) _ _ (le-ltb 32 u few) ∙ omega arith
+  single = single_is (u ∷ c ∷ rest) g (omega arith) ∙ omega arith
 
   policy_same : policy_bytes (u ∷ c ∷ rest) ≡ wire.policy_bytes u c views capacities
   policy_same =
-      let small = (less_front (18 * u) 256 rest g.small.1.1).0 in
+      let small = less_front (18 * u) 256 rest g.small.1.1 in
       let front = bytes_same (u ∷ c ∷ views) (g.small.0, (g.small.1.0, small)) in
       rw single (ap (λ (xs : List ℕ). xs ++ written 2 capacities) front)
 
@@ -237,7 +240,7 @@ module _ (u c : ℕ) (rest : List ℕ) (g : Good (u ∷ c ∷ rest)) (long : len
       let low = (g.compartments (omega arith)).1 in
       policy_round_trip u c views capacities behind few low
       (length-take-le (18 * u) rest enough) (length-drop (18 * u) rest ∙ omega arith)
-      (less_more 256 (2 ^ 16) capacities (omega arith) (less_front (18 * u) 256 rest g.small.1.1).1)
+      (less_more 256 (2 ^ 16) capacities (omega arith) (small_behind 256 (18 * u) rest g.small.1.1))
 
   pub policy_back : (behind : List ℕ) →
       (numbers_in (policy_layout (policy_bytes (u ∷ c ∷ rest) ++ behind)) (policy_bytes (u ∷ c ∷ rest) ++ behind) ≡ u ∷ c ∷ rest)
@@ -259,7 +262,7 @@ singles_small (request.Query user (query.Shared a b range)) w = let b = w.1.0 in
 request_same : (q : Request) → WithinBounds q → request_bytes q ≡ bytes_of q
 request_same q w = ap (λ (xs : List ℕ). xs ++ written 4 (drop (bytes_first q) (numbers_of q))) (bytes_same (take (bytes_first q) (numbers_of q)) (singles_small q w))
 
-holds : (qs : List Request) → AllWithin qs → Hold (requests_bytes qs) qs
+holds : (qs : List Request) → AllByRecursion WithinBounds qs → Hold (requests_bytes qs) qs
 holds [] w = refl
 holds (q ∷ qs) w =
     let rest : List ℕ = requests_bytes qs in
@@ -271,9 +274,8 @@ holds (q ∷ qs) w =
 
 whole_long : (ns : List ℕ) → Good ns → Fits ns stage.Requests → length ns ≡ user_at (users_in ns) + compartments_in ns
 whole_long ns g f =
-    let b = (g.users (omega (arith, f.0))).1 in
     let some = (g.compartments f.0).0 in
-    let single : single_numbers ns ≡ user_at (users_in ns) = cond-false (ltb 32 (users_in ns)) _ _ (le-ltb 32 (users_in ns) b) in
+    let single = single_is ns g f.0 in
     let long = f.1 in
     let all = f.2 in
     elim (g.shape f.0) [
@@ -281,7 +283,7 @@ whole_long ns g f =
       | inr s ↦ let few = s.1 in let is = s.2 in omega arith
     ]
 
-read_as : (ns : List ℕ) (qs : List Request) → Good ns → AllWithin qs → Fits ns stage.Requests → ReadAs (policy_bytes ns ++ requests_bytes qs) (record { numbers = ns; requests = qs })
+read_as : (ns : List ℕ) (qs : List Request) → Good ns → AllByRecursion WithinBounds qs → Fits ns stage.Requests → ReadAs (policy_bytes ns ++ requests_bytes qs) (record { numbers = ns; requests = qs })
 read_as [] qs g w f = absurd (let t = f.0 in omega arith)
 read_as (u ∷ []) qs g w f = absurd (let t = f.0 in omega arith)
 read_as (u ∷ c ∷ rest) qs g w f =

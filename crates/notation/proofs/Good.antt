@@ -1,7 +1,8 @@
 -- The numbers of a policy that lines say are within their bounds, as far as they are said.
-use Rattle.std.proofs.Common.{◌≡◌, ℕ, zero, suc, ◌+◌, ◌-◌, ◌/◌, ◌<◌, ◌≤◌, Bool, true, false, not, eqb, ltb, ◌⊎◌, List, [], ◌∷◌, ◌++◌, length, get_or, take, drop, replicate, sym, refl, ap, ◌∙◌, inl, inr, append_assoc, arith}
+use Rattle.std.proofs.Common.{◌≡◌, ℕ, zero, suc, ◌+◌, ◌-◌, ◌/◌, ◌<◌, ◌≤◌, true, false, not, eqb, ltb, ◌⊎◌, List, [], ◌∷◌, ◌++◌, length, get_or, take, drop, replicate, sym, refl, ap, ◌∙◌, inl, inr, append_assoc, arith}
 use Rattle.std.proofs.lemmas.List.{length-append, length-replicate, get_or_append_left, get_or-append-add, get_or_at, take_at, take-append-le, drop-append-le, drop_at, drop-drop, length-drop}
 use Rattle.std.proofs.lemmas.Bool.{and_parts, or_cases, ltb-true, ltb-false, eqb-true, eqb-false, cases_Bool, cases_eq, not_from_true}
+use Rattle.std.specs.List.{AllByRecursion}
 use Rattle.policy.specs.Numbers.{users_in, compartments_in, user_at, view_in, writes_in, bad_view}
 use Rattle.policy.specs.Rules.{has}
 use Rattle.policy.specs.Views.{distinct_below}
@@ -49,9 +50,12 @@ stage_fits ns =
       ]
     ]
 
-pub less_append : (bound : ℕ) (xs ys : List ℕ) → AllLess bound xs → AllLess bound ys → AllLess bound (xs ++ ys)
-less_append bound [] ys a b = b
-less_append bound (x ∷ xs) ys a b = (a.0, less_append bound xs ys a.1 b)
+pub all_append : {A : Type 0} (P : A → Type 0) (xs ys : List A) → AllByRecursion P xs → AllByRecursion P ys → AllByRecursion P (xs ++ ys)
+all_append P [] ys a b = b
+all_append P (x ∷ xs) ys a b = (a.0, all_append P xs ys a.1 b)
+
+less_append : (xs ys : List ℕ) → AllLess 256 xs → AllLess 256 ys → AllLess 256 (xs ++ ys)
+less_append xs ys a b = all_append (λ (n : ℕ). n < 256) xs ys a b
 
 less_zeros : (n : ℕ) → AllLess 256 (replicate n 0)
 less_zeros zero = tt
@@ -69,7 +73,7 @@ distinct_less n (x ∷ xs) e =
     (ltb-true x n p.0, distinct_less n xs q.1)
 
 has_less : (n c : ℕ) (xs : List ℕ) → AllLess n xs → has xs c ≡ true → (c < n) × (1 ≤ length xs)
-has_less n c [] l e = let z : ◌≡◌ {A = Bool} false true = e in absurd (let y : ◌≡◌ {A = ℕ} 0 1 = cc in omega arith)
+has_less n c [] l e = absurd cc
 has_less n c (x ∷ xs) l e =
     elim (or_cases (eqb x c) (has xs c) e) [
       | inl t ↦ let s = eqb-true x c t in let b = l.0 in (omega arith, omega arith)
@@ -207,10 +211,10 @@ module _ (ns : List ℕ) (g : Good ns) (k : ℕ) (long : length ns ≡ user_at k
             let b = (g.compartments two).1 in
             let few = s.few in
             let w = written.0 in
-            less_append 256 ns xs g.small (
+            less_append ns xs g.small (
               omega arith,
-              less_append 256 places (c.writes ∷ [])
-                  (less_append 256 cs _ (less_more (compartments_in ns) 256 cs (omega arith) less) (less_zeros (16 - length cs)))
+              less_append places (c.writes ∷ [])
+                  (less_append cs _ (less_more (compartments_in ns) 256 cs (omega arith) less) (less_zeros (16 - length cs)))
                   (omega arith, tt),
             );
       }
@@ -250,5 +254,5 @@ module _ (ns : List ℕ) (g : Good ns) (c : ℕ) (two : 1 < length ns) (long : l
         views = λ u h below. views_front ns (n ∷ []) g two u (omega arith) below;
         capacities = λ d h. rw users (capacity_at d (let t = h in omega arith));
         shape = λ _. inr (c + 1, omega arith, omega arith);
-        small = less_append 256 ns (n ∷ []) g.small (let m = b.1 in omega arith, tt);
+        small = less_append ns (n ∷ []) g.small (let m = b.1 in omega arith, tt);
       }

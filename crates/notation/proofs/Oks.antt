@@ -1,15 +1,17 @@
 -- What a line that is read tells of its numbers.
-use Rattle.std.proofs.Common.{◌≡◌, ℕ, zero, suc, ◌+◌, ◌^◌, ◌<◌, ◌≤◌, Bool, true, false, cond, ◌&&◌, leb, List, length, Ok, Err, Result, sym, refl, ap, subst, inl, inr, arith}
+use Rattle.std.proofs.Common.{◌≡◌, ℕ, zero, suc, ◌+◌, ◌^◌, ◌<◌, ◌≤◌, Bool, true, false, cond, ◌&&◌, leb, List, ◌∷◌, length, Ok, Err, Result, sym, refl, ap, subst, inl, inr, arith}
 use Rattle.std.proofs.lemmas.Bool.{and_parts, leb-true, cases_Bool}
 use Rattle.std.specs.Str.{bytes_eq}
 use Rattle.policy.specs.Views.{stands}
 use Rattle.rows.specs.declared.KeyRange.{KeyRange}
 use Rattle.query.specs.declared.Query.{Query}
+use Rattle.query.specs.declared.Query.TheVariants as query
 use Rattle.request.specs.declared.kinds.QueryKind.{QueryKind}
 use Rattle.request.specs.declared.kinds.QueryKind.TheVariants.{Rows, Total, Shared}
 use Rattle.request.specs.declared.Request.{Request}
 use Rattle.request.specs.declared.Request.TheVariants as request
 use Rattle.request.specs.Format.{WithinBounds}
+use Rattle.request.proofs.Reading.{ok_same}
 use Rattle.notation.specs.Names.{spelled}
 use Rattle.notation.specs.Words.{word_at}
 use Rattle.notation.specs.Lines.{then, number_at, within, key_at, compartment_at, range_at, query_said, asked, request_said, verb_at, ends, named, count_said, capacity_said, next_at, Seen, view_from, view_said, user_said}
@@ -19,19 +21,13 @@ use Rattle.notation.specs.declared.names.Name.TheVariants as name
 use Rattle.notation.specs.declared.names.Verb.{Verb}
 use Rattle.notation.specs.declared.names.Verb.TheVariants as verb
 
-pub ok_same : {A E : Type 0} (a b : A) → ◌≡◌ {A = Result A E} (Ok a) (Ok b) → a ≡ b
-ok_same a b e = cc
-
-pub no_ok : {A E : Type 0} (P : Type 0) (e : E) (a : A) → ◌≡◌ {A = Result A E} (Err e) (Ok a) → P
-no_ok P e a h = let z : ◌≡◌ {A = ℕ} 0 1 = cc in absurd (omega arith)
-
 pub then_ok : {A B E : Type 0} (r : Result A E) (f : A → Result B E) (b : B) → then r f ≡ Ok b → (a : A) × (r ≡ Ok a) × (f a ≡ Ok b)
 then_ok (Ok a) f b e = (a, refl, e)
-then_ok (Err x) f b e = no_ok _ x b e
+then_ok (Err x) f b e = absurd cc
 
 pub cond_ok : {A E : Type 0} (t : Bool) (x : A) (e : E) (y : A) → cond t (Ok x) (Err e) ≡ Ok y → (t ≡ true) × (x ≡ y)
 cond_ok true x e y h = (refl, ok_same x y h)
-cond_ok false x e y h = no_ok _ e y h
+cond_ok false x e y h = absurd cc
 
 pub within_ok : (low high : ℕ) (line : List ℕ) (place n : ℕ) → within low high line place ≡ Ok n → (low ≤ n) × (n ≤ high)
 within_ok low high line place n e =
@@ -52,15 +48,15 @@ range_ok line place r e =
     (omega (arith, ap (λ (k : KeyRange). k.from) same), omega (arith, ap (λ (k : KeyRange). k.to) same))
 
 module _ (line : List ℕ) (user : ℕ) (few : user < 32) where
+  ranged_ok : (ask : KeyRange → Query) → ((r : KeyRange) → (r.from < 2 ^ 32) × (r.to < 2 ^ 32) → WithinBounds (request.Query user (ask r))) →
+      (q : Query) → then (range_at line 2) (λ range. Ok (ask range)) ≡ Ok q → WithinBounds (request.Query user q)
+  ranged_ok ask good q e =
+      let range = then_ok (range_at line 2) _ q e in
+      subst (λ (x : Query). WithinBounds (request.Query user x)) (ok_same _ q range.2) (good range.0 (range_ok line 2 range.0 range.1))
+
   query_ok : (kind : QueryKind) (q : Query) → query_said kind line ≡ Ok q → WithinBounds (request.Query user q)
-  query_ok Rows q e =
-      let range = then_ok (range_at line 2) _ q e in
-      let r = range_ok line 2 range.0 range.1 in
-      subst (λ (x : Query). WithinBounds (request.Query user x)) (ok_same _ q range.2) (omega arith, (few, (omega arith, (r.0, (r.1, tt)))))
-  query_ok Total q e =
-      let range = then_ok (range_at line 2) _ q e in
-      let r = range_ok line 2 range.0 range.1 in
-      subst (λ (x : Query). WithinBounds (request.Query user x)) (ok_same _ q range.2) (omega arith, (few, (omega arith, (r.0, (r.1, tt)))))
+  query_ok Rows q e = ranged_ok query.Rows (λ range r. (omega arith, (few, (omega arith, (r.0, (r.1, tt)))))) q e
+  query_ok Total q e = ranged_ok query.Total (λ range r. (omega arith, (few, (omega arith, (r.0, (r.1, tt)))))) q e
   query_ok Shared q e =
       let a = then_ok (compartment_at line 2) _ q e in
       let b = then_ok (compartment_at line 3) _ q a.2 in
@@ -128,7 +124,7 @@ view_few (suc n) line place cs e =
           let first = then_ok (number_at line place) _ cs (rw t at e) in
           let more = then_ok (view_from n line (place + 1)) _ cs first.2 in
           let few = view_few n line (place + 1) more.0 more.1 in
-          rw (sym (ok_same _ cs more.2)) (omega arith)
+          rw (sym (ok_same (first.0 ∷ more.0) cs more.2)) (omega arith)
     ]
 
 -- what is known of a user's contract that is read

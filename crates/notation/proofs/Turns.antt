@@ -28,7 +28,7 @@ lines_yielded g text is source count rest done callee calls =
     YieldsList-at is (YieldsList-from_enumerate (YieldsList-at source (YieldsList-from_slice_split g (λ x. x == 10) text rest done callee calls)) count)
 
 -- an item of `enumerate` is a place, and the line that stands there
-module _ (lines : List (List ℕ)) (n last i : ℕ) (line : List ℕ) (counted : last ≡ n)
+module _ (lines : List (List ℕ)) (n i : ℕ) (line : List ℕ)
     (turn : (n < length (enumerate_from 0 lines)) × ◌≡◌ {A = ℕ × List ℕ} (i, line) (get_or (enumerate_from 0 lines) n (i, line))) where
   there : n < length lines
   there = omega (arith, length-enumerate_from 0 lines, turn.0)
@@ -36,26 +36,22 @@ module _ (lines : List (List ℕ)) (n last i : ℕ) (line : List ℕ) (counted :
   pair : ◌≡◌ {A = ℕ × List ℕ} (i, line) (n, get_or lines n line)
   pair = turn.1 ∙ get_or-enumerate_from 0 lines n (i, line) there ∙ ap (λ (m : ℕ). (m, get_or lines n line)) (omega arith)
 
-  pub place_is : i ≡ last
-  place_is = ap (λ (p : ℕ × List ℕ). p.0) pair ∙ sym counted
-
   -- what the lines from there on say
-  said_on : (said : Said) → then (at_line (i + 1) (line_said said line)) (λ more. lines_said (i + 1 + 1) more (drop (i + 1) lines)) ≡ lines_said (last + 1) said (drop last lines)
+  said_on : (said : Said) → then (at_line (i + 1) (line_said said line)) (λ more. lines_said (n + 1 + 1) more (drop (n + 1) lines)) ≡ lines_said (n + 1) said (drop n lines)
   said_on said =
-      ap (λ (p : ℕ × List ℕ). then (at_line (p.0 + 1) (line_said said p.1)) (λ more. lines_said (p.0 + 1 + 1) more (drop (p.0 + 1) lines))) pair
+      ap (λ (p : ℕ × List ℕ). then (at_line (p.0 + 1) (line_said said p.1)) (λ more. lines_said (n + 1 + 1) more (drop (n + 1) lines))) pair
       ∙ sym (at_drop_more (λ ls. lines_said (n + 1) said ls) lines n line there)
-      ∙ ap (λ (m : ℕ). lines_said (m + 1) said (drop m lines)) (sym counted)
 
-  pub line_read : (said more : Said) → Ok more ≡ at_line (i + 1) (line_said said line) → lines_said (i + 1 + 1) more (drop (i + 1) lines) ≡ lines_said (last + 1) said (drop last lines)
-  line_read said more e = ap (λ (r : Result Said Fault). then r (λ s. lines_said (i + 1 + 1) s (drop (i + 1) lines))) e ∙ said_on said
+  pub line_read : (said more : Said) → Ok more ≡ at_line (i + 1) (line_said said line) → lines_said (n + 1 + 1) more (drop (n + 1) lines) ≡ lines_said (n + 1) said (drop n lines)
+  line_read said more e = ap (λ (r : Result Said Fault). then r (λ s. lines_said (n + 1 + 1) s (drop (n + 1) lines))) e ∙ said_on said
 
   pub line_refused : (e : ReadError) (said : Said) (all : Result Said Fault) → Fails e (at_line (i + 1) (line_said said line)) →
-      lines_said (last + 1) said (drop last lines) ≡ all → Fails e all
-  line_refused (error.Fault fault) said all told is = ap (λ (r : Result Said Fault). then r (λ more. lines_said (i + 1 + 1) more (drop (i + 1) lines))) told ∙ said_on said ∙ is
+      lines_said (n + 1) said (drop n lines) ≡ all → Fails e all
+  line_refused (error.Fault fault) said all told is = ap (λ (r : Result Said Fault). then r (λ more. lines_said (n + 1 + 1) more (drop (n + 1) lines))) told ∙ said_on said ∙ is
   line_refused error.OutOfMemory said all told is = tt
 
 -- behind the last line
-pub said_all : (lines : List (List ℕ)) (n last : ℕ) (said : Said) → last ≡ n → n ≡ length (enumerate_from 0 lines) → at_line last (whole said) ≡ lines_said (last + 1) said (drop last lines)
+pub said_all : (lines : List (List ℕ)) (n last : ℕ) (said : Said) → last ≡ length lines → n ≡ length (enumerate_from 0 lines) → at_line last (whole said) ≡ lines_said (n + 1) said (drop n lines)
 said_all lines n last said counted end =
-    ap (λ (k : ℕ). at_line k (whole said)) (omega arith)
-    ∙ sym (at_drop_all (λ ls. lines_said (last + 1) said ls) lines last (omega (arith, length-enumerate_from 0 lines)))
+    ap (λ (k : ℕ). at_line k (whole said)) (omega (arith, length-enumerate_from 0 lines))
+    ∙ sym (at_drop_all (λ ls. lines_said (n + 1) said ls) lines n (omega (arith, length-enumerate_from 0 lines)))

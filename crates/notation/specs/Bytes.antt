@@ -1,5 +1,6 @@
 -- The bytes of a trace: each number in as many bytes as its place has, low byte first.
-use Rattle.std.specs.Prelude.{ℕ, List, [], ◌∷◌, ◌++◌, take, drop}
+use Rattle.std.specs.Prelude.{ℕ, List, ◌++◌, take, drop}
+use Rattle.std.specs.List.{flat_map}
 use Rattle.request.specs.declared.Request.{Request}
 use Rattle.request.specs.Format.{numbers_of}
 use Rattle.wire.specs.Written.{written, bytes_first}
@@ -13,8 +14,7 @@ abbrev pub request_bytes : Request → List ℕ
 request_bytes q = written 1 (take (bytes_first q) (numbers_of q)) ++ written 4 (drop (bytes_first q) (numbers_of q))
 
 abbrev pub requests_bytes : List Request → List ℕ
-requests_bytes [] = []
-requests_bytes (q ∷ qs) = request_bytes q ++ requests_bytes qs
+requests_bytes qs = flat_map request_bytes qs
 
 abbrev pub trace_bytes : Said → List ℕ
 trace_bytes said = policy_bytes said.numbers ++ requests_bytes said.requests

@@ -1,3 +1,4 @@
+-- What the contracts of this crate cite.
 pub mod Words
 pub mod Names
 pub mod Faults

@@ -61,6 +61,7 @@ impl fmt::Display for Fault {
 }
 
 // Why a text is not read.
+// `played::Stop` is such a type too; one generic over the error would have two `From`s that overlap, of any error and of `AllocError`.
 #[derive(Clone, Copy, PartialEq, Eq, Debug)]
 pub enum ReadError {
     Fault(Fault),

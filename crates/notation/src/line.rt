@@ -37,7 +37,7 @@ fn number_of(word: &[u8]) -> Option<u64>
 }
 
 // The number by which the word at a place is told: from 1 on.
-fn ordinal(place: u8) -> usize
+pub(crate) fn ordinal(place: u8) -> usize
     ensures { result ≡ place + 1 }
 {
     usize::from(place) + 1

@@ -45,6 +45,7 @@ impl fmt::Display for Name {
 }
 
 // What a user asks for.
+// `request::Kind` is a byte of a request, and another behind it says which query; here one word of a line says both, so `Query` carries which.
 #[derive(Clone, Copy, PartialEq, Eq, Debug)]
 pub(crate) enum Verb {
     Write,

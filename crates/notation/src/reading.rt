@@ -2,7 +2,7 @@
 ghost use Rattle.notation.specs.Lines.{then};
 ghost use Rattle.notation.specs.Said.{Tells, added, adds, at_line, line_said, lines_said, said_of, whole};
 ghost use Rattle.notation.specs.Words.{lines};
-ghost use Rattle.std.specs.Prelude.{◌≡◌, Ok, OnOk};
+ghost use Rattle.std.specs.Prelude.{◌≡◌, length, Ok, OnOk};
 
 use crate::Trace;
 use crate::entries::{Entry, entry_in};
@@ -11,6 +11,13 @@ use crate::line::Line;
 use crate::stages::{Stage, stage_of};
 use policy::{COMPARTMENTS, Contract};
 use std::alloc::AllocError;
+
+// A line more than there are line feeds.
+fn line_count(text: &[u8]) -> usize
+    ensures { result ≡ length (lines text.now) }
+{
+    text.split(|byte| *byte == b'\n').count()
+}
 
 impl Trace {
     // Adds what a user's line says: behind the view lies 0, up to a place for each compartment.
@@ -70,11 +77,9 @@ impl Trace {
     pub(crate) fn read_lines(&mut self, text: &[u8]) -> Result<(), ReadError>
         ensures { Tells (λ _. said_of self.new) result (lines_said 1 (said_of self.old) (lines text.now)) }
     {
-        let mut last = 0;
         for (i, bytes) in text.split(|byte| *byte == b'\n').enumerate() {
-            last = i + 1;
-            self.read_line(last, Line { bytes })?;
+            self.read_line(i + 1, Line { bytes })?;
         }
-        Ok(self.whole(last)?)
+        Ok(self.whole(line_count(text))?)
     }
 }

@@ -3,7 +3,7 @@ ghost use Rattle.std.specs.Prelude.{◌≡◌, ◌-◌, ◌<◌, IfOk};
 ghost use Rattle.notation.specs.Lines.{asked, key_at, query_said, range_at, request_said, within};
 
 use crate::fault::Reason;
-use crate::line::Line;
+use crate::line::{Line, ordinal};
 use crate::names::Verb;
 use policy::{COMPARTMENTS, USERS};
 use query::Query;
@@ -23,8 +23,9 @@ fn below(line: Line, place: u8, bound: usize) -> Result<u64, Reason>
 fn key_at(line: Line, place: u8) -> Result<u32, Reason>
     ensures { result ≡ key_at line.entry.bytes.now place }
 {
-    let key = line.within(place, 0, u64::from(u32::MAX))?;
-    Ok(key as u32)
+    u32::try_from(line.number(place)?).map_err(|_| Reason::OutOfBounds {
+        word: ordinal(place),
+    })
 }
 
 // The last two numbers of a line.

@@ -1,5 +1,5 @@
 -- What comes of the bytes of a trace: one item on.
-use Rattle.std.proofs.Common.{◌≡◌, ◌≢◌, ℕ, zero, suc, ◌-◌, ◌<◌, ◌≤◌, min, eqb, ltb, List, [], ◌∷◌, length, take, drop, Some, None, Ok, Err, Option, Result, IfSome, sym, refl, ◌∙◌, inl, inr, lit<, arith}
+use Rattle.std.proofs.Common.{◌≡◌, ◌≢◌, ℕ, zero, suc, ◌-◌, ◌<◌, ◌≤◌, eqb, ltb, List, [], ◌∷◌, length, drop, Some, None, Ok, Err, Option, Result, IfSome, refl, ◌∙◌, inl, inr, lit<, arith}
 use Rattle.played.specs.Items.{first_by, outcomes, outcomes_by}
 use Rattle.played.specs.declared.items.Item.{Item}
 use Rattle.policy.specs.declared.refusal.Refusal.{Refusal}
@@ -8,8 +8,8 @@ use Rattle.request.specs.declared.kinds.Kind.{Kind}
 use Rattle.request.specs.declared.kinds.Kind.TheVariants.{Write, Delete, Copy, Query}
 use Rattle.request.specs.declared.kinds.QueryKind.{QueryKind}
 use Rattle.request.specs.declared.kinds.QueryKind.TheVariants.{Rows, Total, Shared}
-use Rattle.std.proofs.lemmas.Bool.{cases_Bool, cases_lt, cond-true, cond-false, eq-eqb, ne_eqb, ltb-false, ltb-true}
-use Rattle.std.proofs.lemmas.List.{drop_all, length-drop, take_rest}
+use Rattle.std.proofs.lemmas.Bool.{cases_Bool, cond-true, cond-false, eq-eqb, ne_eqb, ltb-false, ltb-true}
+use Rattle.std.proofs.lemmas.List.{drop_all, length-drop}
 use Rattle.wire.specs.Bytes.{size}
 use Rattle.wire.specs.NextRequest.{next_in, next_by, whole, kind_layout, kind_in, query_kind_in, request_layout, Takes}
 use Rattle.wire.specs.declared.item.Next.{Next}
@@ -86,12 +86,3 @@ by_first bytes (next.End place) = rw (drop_all (length bytes) bytes (omega arith
 pub first_on : (bytes : List ℕ) → length bytes ≢ 0 →
     outcomes (length bytes) bytes ≡ (first_by (next_in bytes) (length bytes)).0 ∷ all (drop (first_by (next_in bytes) (length bytes)).1 bytes)
 first_on bytes h = one_on (length bytes - 1) bytes (omega arith) ∙ by_first bytes (next_in bytes)
-
--- what lies behind n bytes, where there may be fewer
-pub cut_behind : (bytes : List ℕ) (n k : ℕ) → k ≡ min n (length bytes) → take (length bytes - k) (drop k bytes) ≡ drop n bytes
-cut_behind bytes n k e =
-    take_rest bytes k
-    ∙ elim (cases_lt n (length bytes)) [
-      | inl h ↦ let s : k ≡ n = omega arith in rw s refl
-      | inr h ↦ drop_all k bytes (omega arith) ∙ sym (drop_all n bytes h)
-    ]

@@ -63,3 +63,8 @@ items_of bytes = items_in (outcomes_of bytes)
 -- how it ends
 abbrev pub ended_of : List ℕ → Option Refusal
 ended_of bytes = end_in (outcomes_of bytes)
+
+-- how it ends if its opening is refused, or not
+abbrev pub end_by : Option Refusal → List ℕ → Option Refusal
+end_by (Some why) bytes = Some why
+end_by None bytes = ended_of bytes

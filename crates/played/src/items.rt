@@ -9,6 +9,7 @@ use request::Request;
 use wire::Next;
 
 // One thing that a user brings.
+// Two variants of `wire::Next` once more: that tells how many bytes are taken too, and of the end of the trace, and what is played has neither.
 // No Result: a request at fault is told and played on behind like any other, and an error struct of user and place would name only these two numbers again.
 #[derive(Clone, Copy, PartialEq, Eq, Debug)]
 pub enum Item {

@@ -22,7 +22,7 @@ pub const MOST: u64 = wire::CAPACITY;
 #[derive(Debug, Drop)]
 pub struct Played {
     pub text: String,
-    // No Result: what was printed stands in any case, and what both players promise of the end is the refusal or none.
+    // No Result: the contracts say the end as a refusal or none, and each would turn an `end: Result<(), Refusal>` to an Option again.
     pub refused: Option<Refusal>,
 }
 

@@ -1,4 +1,5 @@
 // Why playing stops before the end of a trace.
+// `notation::ReadError` is such a type too; one generic over the error would have two `From`s that overlap, of any error and of `AllocError`.
 ghost use Rattle.std.specs.Prelude.{◌≡◌};
 ghost use Rattle.played.specs.declared.stop.Stop.TheVariants.{Refused, OutOfMemory};
 

@@ -1,2 +1,3 @@
+-- Lemmas on reading requests: what is read, and where it is refused.
 pub mod Reading
 pub mod Faults

@@ -28,7 +28,7 @@ pub passes : {A B : Type 0} (P : Type 0) (r : Result A Refusal) (f : A → Resul
 passes P (Ok a) f b h go = go a refl h
 passes P (Err e) f b h go = absurd cc
 
-ok_same : {A : Type 0} (a b : A) → ◌≡◌ {A = Result A Refusal} (Ok a) (Ok b) → a ≡ b
+pub ok_same : {A E : Type 0} (a b : A) → ◌≡◌ {A = Result A E} (Ok a) (Ok b) → a ≡ b
 ok_same a b h = cc
 
 below_reads : (bound : ℕ) (xs : List ℕ) (i v : ℕ) → below bound xs i ≡ Ok v → (v < bound) × (drop i xs ≡ v ∷ drop (i + 1) xs)

@@ -1,3 +1,4 @@
+-- What the contracts of this crate cite.
 pub mod Kinds
 pub mod Decoded
 pub mod Format

@@ -1,1 +1,2 @@
+-- Lemmas on the lines of a trace.
 pub mod Sameness

@@ -1,3 +1,4 @@
+-- What the contracts of this crate cite.
 pub mod Lines
 pub mod Decided
 pub mod Played

@@ -1,6 +1,7 @@
 -- What playing a trace prints, and how it ends.
-use Rattle.std.specs.Prelude.{ℕ, List, [], ◌∷◌, ◌++◌, Some, None, Option}
-use Rattle.played.specs.Items.{from, items_of, ended_of}
+use Rattle.std.specs.Prelude.{ℕ, List, [], Some, None, Option}
+use Rattle.std.specs.List.{flat_map}
+use Rattle.played.specs.Items.{from, items_of}
 use Rattle.played.specs.declared.items.Item.{Item}
 use Rattle.played.specs.declared.items.Item.TheVariants as item
 use Rattle.policy.specs.Rules.{Rules}
@@ -10,6 +11,7 @@ use Rattle.trace.specs.Decided.{decided}
 use Rattle.trace.specs.Lines.{line}
 use Rattle.trace.specs.declared.words.Words.{Words}
 use Rattle.trace.specs.declared.words.Words.TheVariants.{NoRequest}
+pub use Rattle.played.specs.Items.{end_by}
 pub use Rattle.wire.specs.PolicyNumbers.{policy_of}
 
 -- what is told of an item; what is no request is told too
@@ -23,16 +25,11 @@ turn p i = line (from i) (told p i)
 
 -- all that is printed
 abbrev pub lines : Rules → List Item → List ℕ
-lines p [] = []
-lines p (i ∷ is) = turn p i ++ lines p is
+lines p is = flat_map (turn p) is
 
 abbrev pub text_by : Option Refusal → List ℕ → List ℕ
 text_by (Some why) bytes = []
 text_by None bytes = lines (rules_in (policy_of bytes)) (items_of bytes)
-
-abbrev pub end_by : Option Refusal → List ℕ → Option Refusal
-end_by (Some why) bytes = Some why
-end_by None bytes = ended_of bytes
 
 -- what a trace prints: nothing where its policy is refused
 abbrev pub text_of : List ℕ → List ℕ

@@ -2,6 +2,7 @@
 use Rattle.std.proofs.Common.{◌≡◌, ℕ, zero, suc, ◌+◌, ◌*◌, ◌<◌, ◌≤◌, Bool, true, false, cond, not, ◌&&◌, ltb, List, [], ◌∷◌, ◌++◌, length, get_or, drop, Some, None, Ok, Err, Option, Result, sym, refl, ap, ◌∙◌, subst, mul-zero, mul-suc, arith, length-append, length-drop}
 use Rattle.std.proofs.lemmas.List.{get_or_default, get_or_past}
 use Rattle.std.proofs.lemmas.Bool.Decides.{nat_tests}
+use Rattle.std.proofs.lemmas.Option.{same_Some}
 use Rattle.policy.specs.declared.refusal.Refusal.{Refusal}
 use Rattle.policy.specs.declared.refusal.Refusal.TheVariants.{NoRequest}
 use Rattle.request.specs.declared.Request.{Request}
@@ -17,7 +18,7 @@ use Rattle.request.proofs.Reading.{passes}
 use Rattle.wire.specs.declared.layout.Layout.{Layout}
 use Rattle.wire.specs.declared.item.Next.TheVariants.{Fault, End}
 use Rattle.wire.specs.Bytes.{words, numbers_in, size}
-use Rattle.wire.specs.NextRequest.{next_by, kind_in, query_kind_in, query_layout, kind_layout, request_layout, front_layout, place_at_fault, whole}
+use Rattle.wire.specs.NextRequest.{fours, next_by, kind_in, query_kind_in, query_layout, kind_layout, request_layout, front_layout, place_at_fault, whole}
 use Rattle.wire.specs.Refused.{numbers_by, RefusedAtPlace}
 use Rattle.wire.proofs.Filling.{words_most, words_more, words_short}
 
@@ -63,34 +64,36 @@ number_is layout bytes i d h l =
     single_is layout.single i d bytes _ l
     (λ few. words_short layout.width layout.wide _ (let all = words_all layout.single bytes (omega arith) in simp length-drop (omega arith)))
 
-pub some_same : {A : Type 0} (a b : A) → ◌≡◌ {A = Option A} (Some a) (Some b) → a ≡ b
-some_same a b h = cc
-
 -- a layout has a place for every bound of the format
 pub record Suits (bs : List ℕ) (layout : Layout) : Type 0 where
   pub starts : 1 < layout.single
   pub fours : layout.width ≡ 4
   pub all : length bs ≡ layout.single + layout.wide
 
-fits : (bs : List ℕ) (layout l : Layout) → ◌≡◌ {A = Option Layout} (Some l) (Some layout) → Suits bs l → Suits bs layout
-fits bs layout l e h = subst (λ (l : Layout). Suits bs l) (some_same l layout e) h
+fits : (bs : List ℕ) (single wide : ℕ) (layout : Layout) → ◌≡◌ {A = Option Layout} (Some (fours single wide)) (Some layout) →
+    1 < single → length bs ≡ single + wide → Suits bs layout
+fits bs single wide layout e starts all =
+    subst (λ (l : Layout). Suits bs l) (same_Some (fours single wide) layout e) (record { starts = starts; fours = refl; all = all })
+
+pub single_of : (layout l : Layout) → ◌≡◌ {A = Option Layout} (Some l) (Some layout) → l.single ≡ layout.single
+single_of layout l e = ap (λ (l : Layout). l.single) (same_Some l layout e)
 
 query_suits : (q : QueryKind) (layout : Layout) → query_layout (Some q) ≡ Some layout → Suits (query_bounds (Some q)) layout
-query_suits Rows layout e = fits _ layout _ e (record { starts = omega arith; fours = refl; all = refl })
-query_suits Total layout e = fits _ layout _ e (record { starts = omega arith; fours = refl; all = refl })
-query_suits Shared layout e = fits _ layout _ e (record { starts = omega arith; fours = refl; all = refl })
+query_suits Rows layout e = fits _ 3 2 layout e (omega arith) refl
+query_suits Total layout e = fits _ 3 2 layout e (omega arith) refl
+query_suits Shared layout e = fits _ 3 4 layout e (omega arith) refl
 
 pub query_single : (q : QueryKind) (layout : Layout) → query_layout (Some q) ≡ Some layout → layout.single ≡ 3
-query_single Rows layout e = sym (ap (λ (l : Layout). l.single) (some_same _ layout e))
-query_single Total layout e = sym (ap (λ (l : Layout). l.single) (some_same _ layout e))
-query_single Shared layout e = sym (ap (λ (l : Layout). l.single) (some_same _ layout e))
+query_single Rows layout e = sym (single_of layout _ e)
+query_single Total layout e = sym (single_of layout _ e)
+query_single Shared layout e = sym (single_of layout _ e)
 
 suits : (k : Option Kind) (q r : Option QueryKind) (layout : Layout) → kind_layout k q ≡ Some layout →
     (layout.single ≡ 3 → r ≡ q) → Suits (kind_bounds k r) layout
 suits None q r layout e s = absurd cc
-suits (Some Write) q r layout e s = fits _ layout _ e (record { starts = omega arith; fours = refl; all = refl })
-suits (Some Delete) q r layout e s = fits _ layout _ e (record { starts = omega arith; fours = refl; all = refl })
-suits (Some Copy) q r layout e s = fits _ layout _ e (record { starts = omega arith; fours = refl; all = refl })
+suits (Some Write) q r layout e s = fits _ 2 2 layout e (omega arith) refl
+suits (Some Delete) q r layout e s = fits _ 2 1 layout e (omega arith) refl
+suits (Some Copy) q r layout e s = fits _ 2 3 layout e (omega arith) refl
 suits (Some Query) None r layout e s = absurd cc
 suits (Some Query) (Some q) r layout e s = rw (s (query_single q layout e)) (query_suits q layout e)
 

@@ -19,7 +19,7 @@ use Rattle.wire.specs.declared.item.Next.TheVariants.{End}
 use Rattle.wire.specs.NextRequest.{next_by, kind_in, query_kind_in, query_layout, kind_layout, request_layout, place_at_fault, whole}
 use Rattle.wire.specs.Bytes.{low_first, words, numbers_in, size}
 use Rattle.wire.specs.Written.{low_bytes, written, bytes_first, bytes_of, AllLess, RequestStands}
-use Rattle.wire.proofs.Ends.{some_same, query_single, kind_same, bounds_suit}
+use Rattle.wire.proofs.Ends.{single_of, query_single, kind_same, bounds_suit}
 use Rattle.wire.proofs.Filling.{words_more, words_most}
 
 words_take : (n : ℕ) (bytes : List ℕ) → words 1 n bytes ≡ take n bytes
@@ -30,7 +30,7 @@ words_take (suc n) (b ∷ bytes) =
     let first : low_first (b ∷ []) ≡ b = omega arith in
     words_more 1 (suc n) n (b ∷ bytes) refl (omega arith) ∙ cc
 
-small_behind : (bound n : ℕ) (bytes : List ℕ) → AllLess bound bytes → AllLess bound (drop n bytes)
+pub small_behind : (bound n : ℕ) (bytes : List ℕ) → AllLess bound bytes → AllLess bound (drop n bytes)
 small_behind bound zero bytes h = h
 small_behind bound (suc n) [] h = tt
 small_behind bound (suc n) (b ∷ bytes) h = small_behind bound n bytes h.1
@@ -77,9 +77,6 @@ bounds_long (Copy user compartment range) = refl
 bounds_long (Query user (Rows range)) = refl
 bounds_long (Query user (Total range)) = refl
 bounds_long (Query user (Shared a b range)) = refl
-
-single_of : (layout l : Layout) → ◌≡◌ {A = Option Layout} (Some l) (Some layout) → l.single ≡ layout.single
-single_of layout l e = ap (λ (l : Layout). l.single) (some_same l layout e)
 
 query_first : (asked : Option QueryKind) (layout : Layout) → query_layout asked ≡ Some layout → 3 ≡ layout.single
 query_first None layout e = absurd cc

@@ -1,3 +1,4 @@
+-- What the contracts of this crate cite.
 pub mod Bytes
 pub mod NextRequest
 pub mod PolicyNumbers

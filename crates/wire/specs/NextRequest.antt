@@ -33,11 +33,15 @@ kind_layout (Some Delete) query = Some (fours 2 1)
 kind_layout (Some Copy) query = Some (fours 2 3)
 kind_layout (Some Query) query = query_layout query
 
+-- what has the byte at the place as its number, if there is such a byte
+abbrev pub numbered_at : {A : Type 0} → (ℕ → Option A) → List ℕ → ℕ → Option A
+numbered_at numbered bytes place = cond (nat_lt place (length bytes)) (numbered (slice_index bytes place)) None
+
 abbrev pub kind_in : List ℕ → Option Kind
-kind_in bytes = cond (nat_lt 0 (length bytes)) (kind_numbered (slice_index bytes 0)) None
+kind_in bytes = numbered_at kind_numbered bytes 0
 
 abbrev pub query_kind_in : List ℕ → Option QueryKind
-query_kind_in bytes = cond (nat_lt 2 (length bytes)) (query_numbered (slice_index bytes 2)) None
+query_kind_in bytes = numbered_at query_numbered bytes 2
 
 -- what is read there is a kind if one is made of the byte
 abbrev pub KindIn : {A E : Type 0} → (ℕ → Result A E → Type 0) → Option ℕ → Option A → Type 0

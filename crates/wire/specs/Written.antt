@@ -1,5 +1,6 @@
 -- Requests and policies as they are written into a trace, and that they are read again.
 use Rattle.std.specs.Prelude.{◌≡◌, ℕ, zero, suc, ◌*◌, ◌/◌, ◌%◌, ◌^◌, ◌<◌, ◌≤◌, List, [], ◌∷◌, ◌++◌, length, take, drop}
+use Rattle.std.specs.List.{AllByRecursion, flat_map}
 use Rattle.request.specs.declared.Request.{Request}
 use Rattle.request.specs.declared.Request.TheVariants.{Write, Delete, Copy, Query}
 use Rattle.request.specs.Format.{numbers_of, WithinBounds}
@@ -14,8 +15,7 @@ low_bytes zero n = []
 low_bytes (suc width) n = n % 256 ∷ low_bytes width (n / 256)
 
 abbrev pub written : ℕ → List ℕ → List ℕ
-written width [] = []
-written width (n ∷ ns) = low_bytes width n ++ written width ns
+written width ns = flat_map (low_bytes width) ns
 
 -- how many numbers of a request are a byte each
 abbrev pub bytes_first : Request → ℕ
@@ -33,8 +33,7 @@ RequestRoundTrip =
     (q : Request) (rest : List ℕ) → WithinBounds q → next_in (bytes_of q ++ rest) ≡ Next.Request q (length (bytes_of q))
 
 abbrev pub AllLess : ℕ → List ℕ → Type 0
-AllLess bound [] = Unit {0}
-AllLess bound (n ∷ ns) = (n < bound) × AllLess bound ns
+AllLess bound ns = AllByRecursion (λ n. n < bound) ns
 
 -- and what is read from bytes is the request that is written there
 abbrev pub RequestStands : Type 0

@@ -21,6 +21,7 @@ impl Layout {
     }
 
     // Fills `numbers` with those that lie in the bytes, as far as they are there, and says how many these are.
+    // A count, since a caller of `policy_numbers` has lent the memory; where the buffer is this crate's own, `read` gives the part.
     pub(crate) fn fill(self, bytes: &[u8], numbers: &mut [u64]) -> usize
         requires { self.single + self.wide ≤ length numbers.old }
         ensures count { result ≡ length (numbers_in self bytes.now) }

@@ -53,6 +53,7 @@ pub fn next(bytes: &[u8]) -> Next
 
 // The numbers of the policy at the front of the bytes, as far as they are there, and how many these are.
 // Where `numbers` has no place for the largest policy, nothing is written.
+// A count and no `Vec`: this crate has no heap, and the memory that is filled is the caller's, lent. `read_policy` fills a buffer of its own.
 pub fn policy_numbers(bytes: &[u8], numbers: &mut [u64]) -> usize
     ensures within { result ≤ length numbers.old }
     ensures count { result ≡ length (policy_numbers (length numbers.old) bytes.now) }

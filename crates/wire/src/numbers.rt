@@ -27,6 +27,7 @@ pub(crate) fn fill(bytes: &[u8], width: usize, numbers: &mut [u64]) -> usize
     ensures count { result ≡ length (words width (length numbers.old) bytes.now) }
     ensures after { numbers.new ≡ words width (length numbers.old) bytes.now ++ drop result numbers.old }
 {
+    // Cut by hand: `zip(bytes.chunks_exact(width))` requires `0 < width`, which a `Layout` doesn't promise, and after `iter_mut` with `zip` a proof knows no element.
     let mut rest = bytes;
     for (place, number) in numbers.iter_mut().enumerate() {
         let Some((word, behind)) = rest.split_at_checked(width) else {

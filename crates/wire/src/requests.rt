@@ -56,6 +56,7 @@ pub(crate) fn decode_by(layout: Layout, bytes: &[u8]) -> Result<Request, Refusal
 
 // The place at which numbers are refused.
 // The types of `decode` allow other refusals, and a request: the law `RefusedAtPlace` says that none comes here, so the last arm never runs.
+// `decode` keeps the wide type: the definitions and laws of `request` speak of refusals, which have numbers and places.
 pub(crate) fn place_at_fault(decoded: Result<Request, Refusal>) -> usize
     ensures { result ≡ place_at_fault decoded }
 {

@@ -1,3 +1,4 @@
+-- What is told by the policy that was read is told by its numbers.
 use Rattle.std.proofs.Common.{sym}
 use Rattle.played.specs.Items.{items_of}
 use Rattle.policy.specs.Access.{rules_of}

@@ -9,7 +9,7 @@ impl fmt::Display for Words {
     ghost output = { λ w. Some (words_bytes w) };
 
     fn fmt<W: fmt::Write>(&self, f: &mut fmt::Formatter<W>) -> fmt::Result {
-        // `words` has two of these texts too: it stands above and tells what the store answers, and a trace goes without a store.
+        // `words` has the first three texts too: it needs the store's model and cache, and `trace` goes without.
         match self {
             Words::NoRequest { place } => write!(f, "no deed at {place}"),
             Words::NotAllowed => write!(f, "not allowed"),

@@ -1,3 +1,4 @@
+-- The four parts that are pushed are the numbers of the contract.
 use Rattle.std.proofs.Common.{◌≡◌, ℕ, List, [], ◌∷◌, ◌++◌, ◌-◌, length, take, drop, replicate, vec_items, sym, ap, ◌∙◌, append-nil, arith}
 use Rattle.std.proofs.lemmas.List.{drop-replicate, length-replicate, take_all}
 use Rattle.notation.specs.Said.{padded}

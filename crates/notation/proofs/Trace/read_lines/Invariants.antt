@@ -5,7 +5,5 @@ use Rattle.notation.specs.Words.{lines}
 use Rattle.notation.proofs.Trace.read_lines.Given as goal
 
 abbrev pub invariant-loop-i : goal.invariant-loop-i
-invariant-loop-i l = record {
-  counted : l.last ≡ length l.yielded;
-  whole : lines_said (l.last + 1) (said_of l.self) (drop l.last (lines l.text)) ≡ lines_said 1 (said_of l.initial.self) (lines l.text);
-}
+invariant-loop-i l =
+    lines_said (length l.yielded + 1) (said_of l.self) (drop (length l.yielded) (lines l.text)) ≡ lines_said 1 (said_of l.initial.self) (lines l.text)

@@ -1,3 +1,4 @@
+-- The view so far and the numbers still to come are what the line says.
 use Rattle.notation.proofs.Viewing.{Viewed}
 use Rattle.notation.proofs.users.view_in.Given as goal
 

@@ -1,3 +1,4 @@
+-- Each turn writes the low bytes of the next number.
 use Rattle.std.proofs.Common.{◌≡◌, ℕ, List, ◌++◌, ◌∙◌, get_or, take, ap, arith, vec_items}
 use Rattle.std.proofs.lemmas.Grind.{common_steps}
 use Rattle.wire.specs.Written.{low_bytes}

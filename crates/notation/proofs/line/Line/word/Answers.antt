@@ -1,3 +1,4 @@
+-- The word is the one at the place among those that are not empty.
 use Rattle.std.proofs.Common.{◌≡◌, ◌==◌, List, ℕ, [], not, length, rules, tests, Bor, Some, None, Option, option_map, slice_get, unwrap_or, refl, ap, ◌∙◌}
 use Rattle.std.proofs.lemmas.Iterator.Consumers.{nth_from_yields_List, YieldsList-from_filter, YieldsList-at}
 use Rattle.std.proofs.lemmas.Iterator.Splits.{YieldsList-from_slice_split}

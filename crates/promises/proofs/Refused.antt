@@ -22,11 +22,11 @@ use Rattle.promises.specs.Effects.{RefusalsLeave}
 use Rattle.promises.specs.Traces.{as_response, as_answer}
 
 not_done : (x : Result (Unit {0}) Refusal) (why : Refusal) → as_response x ≡ refused why → is_ok x ≡ false
-not_done (Ok x) why e = let z : ◌≡◌ {A = ℕ} 0 1 = cc in absurd (omega arith)
+not_done (Ok x) why e = absurd cc
 not_done (Err x) why e = refl
 
 not_answered : (x : Result Outcome Refusal) (row : List ℕ) (why : Refusal) → as_answer x row ≡ refused why → x ≡ Err why
-not_answered (Ok x) row why e = let z : ◌≡◌ {A = ℕ} 0 1 = cc in absurd (omega arith)
+not_answered (Ok x) row why e = absurd cc
 not_answered (Err x) row why e = cc
 
 -- a change of one part

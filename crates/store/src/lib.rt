@@ -16,6 +16,7 @@ mod reply;
 
 pub use answering::ask;
 use part::room_of;
+use copying::Between;
 use policy::{Policy, Refusal, Written};
 pub use reply::Reply;
 use request::Request;
@@ -81,7 +82,12 @@ pub fn copy(
     if written.compartment == compartment {
         return copying::into_itself(memory, written);
     }
-    copying::between(memory, from, written, range)
+    Between {
+        memory,
+        from,
+        written,
+    }
+    .copy(range)
 }
 
 // Any request.

@@ -54,5 +54,5 @@ half_a_copy = record {
   after = refl;
   fails = λ h.
       let e : ◌≡◌ {A = List Row} (row 5 ∷ row 6 ∷ []) [] = ap (λ s. s.rows 2) (h three filled copying (NoRoom 2) refl) in
-      let z : ◌≡◌ {A = ℕ} 1 0 = cc in omega arith;
+      cc;
 }

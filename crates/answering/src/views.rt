@@ -45,7 +45,7 @@ impl<'a> Held<'a> {
     }
 }
 
-// The lower of two places, where there are two.
+// The lower of two places, where there are two. No `min` of two `Option`s passes over `None`.
 fn lower(a: Option<usize>, b: Option<usize>) -> Option<usize>
     ensures { result ≡ lower a b }
 {

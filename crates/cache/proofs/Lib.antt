@@ -1,3 +1,4 @@
+-- Lemmas on kept answers, from one place to the laws.
 pub mod FirstFound
 pub mod Numbers
 pub mod Stored

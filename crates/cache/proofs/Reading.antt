@@ -59,7 +59,7 @@ kept_told kind rows amount kept h = elim (cases_Bool (eqb kind 1 && (eqb rows 0 
       | inl c ↦ let e = rw c at i in let f : Shared ≡ kept = cc in three kind rows amount 3 c ∙ ap kept_numbers f
       | inr c ↦ let j = rw c at i in elim (cases_Bool (eqb kind 4 && (eqb rows 0 && eqb amount 0))) [
         | inl d ↦ let e = rw d at j in let f : NotSeen ≡ kept = cc in three kind rows amount 4 d ∙ ap kept_numbers f
-        | inr d ↦ let e = rw d at j in let z : ◌≡◌ {A = ℕ} 0 1 = cc in absurd (omega arith)
+        | inr d ↦ let e = rw d at j in absurd cc
       ]
     ]
   ]
@@ -81,5 +81,5 @@ place_told key place kept h e = elim (cases_Bool (same_numbers key (take 21 plac
       let d : drop 21 place ≡ kept_numbers kept =
       three_left (drop 21 place) (omega (arith, length-drop 21 place)) ∙ rw (get_or-drop 21 place 0 0, get_or-drop 21 place 1 0, get_or-drop 21 place 2 0) o in
       sym (take-append-drop 21 place) ∙ rw (k, d)
-  | inr t ↦ let f = rw t at e in let z : ◌≡◌ {A = ℕ} 0 1 = cc in absurd (omega arith)
+  | inr t ↦ let f = rw t at e in absurd cc
 ]

@@ -52,7 +52,7 @@ others_stay query other vs ws kept xs h apart = look_up_kept query other vs ws k
 -- of the first place that keeps something, where it stands
 stands : (n : ℕ) (key xs : List ℕ) (kept : Kept) → 24 * n ≤ length xs → found_in n key xs ≡ Some kept →
     (i : ℕ) × (24 * i + 24 ≤ length xs) × (take 24 (drop (24 * i) xs) ≡ key ++ kept_numbers kept)
-stands zero key xs kept h e = let z : ◌≡◌ {A = ℕ} 0 1 = cc in absurd (omega arith)
+stands zero key xs kept h e = absurd cc
 stands (suc n) key xs kept h e = go (kept_in key (take 24 xs)) refl (stands n key (drop 24 xs) kept (omega (arith, length-drop 24 xs))) e
   where
     go : (o : Option Kept) → kept_in key (take 24 xs) ≡ o →
@@ -72,7 +72,7 @@ found_stands query vs kept xs e = stands (length xs / 24) (key_numbers query vs)
 
 any_found : (query : Query) (versions : List ℕ) (kept : Kept) (es : List Entry) → find query versions es ≡ Some kept →
     Any (λ e. (query ≡ e.query) × (sixteen versions ≡ sixteen e.versions) × (kept ≡ e.kept)) es
-any_found query vs kept [] h = let z : ◌≡◌ {A = ℕ} 0 1 = cc in absurd (omega arith)
+any_found query vs kept [] h = absurd cc
 any_found query vs kept (e ∷ es) h = elim (cases_Bool (fits query vs e)) [
   | inl t ↦
       let k = key_told query e.query vs e.versions (same_key query e.query vs e.versions ∙ t) in

@@ -17,7 +17,7 @@ pub mod laws;
 pub enum Kept {
     // The rows of the range in each compartment of the view.
     Rows,
-    // How many rows there are in the range, and the sum of their amounts.
+    // How many rows there are in the range, and the sum of their amounts: numbers of memory both.
     Total { rows: u64, amount: u64 },
     // The rows of one compartment whose keys are in another.
     Shared,
@@ -103,6 +103,7 @@ pub fn keep(places: &mut [u64], query: Query, versions: &[u64], kept: Kept)
 }
 
 // Moves all places but the last back by one, and writes the first: its key, then what it keeps.
+// By `copy_within`, one memmove: what a slice holds after `as_chunks_mut` no contract says.
 fn put_first(places: &mut [u64], key: &[u64; KEY], kept: Kept)
     requires { 24 ≤ length places.old }
     ensures { places.new ≡ moved_back (length places.old / 24 * 24) (key.now ++ kept_numbers kept) places.old }
@@ -133,6 +134,8 @@ fn read_place(place: &[u64; PLACE], key: &[u64; KEY]) -> Option<Kept>
 }
 
 // The query in five numbers: its kind, the key range, and for shared rows the two compartments.
+// A function and no `From`, since both types are of other crates. No kind is 0, so that an empty place has no query's key;
+// `request`, which is a crate above, numbers the kinds from 0.
 fn query_numbers(query: Query) -> [u64; QUERY]
     ensures { result ≡ query_numbers query }
 {

@@ -69,6 +69,7 @@ fn change<C: Change>(part: &mut [u64], written: Written, change: C) -> Result<()
     ensures after { part.new ≡ change_after (C.count_after change) (C.rows_after change) part.old }
 {
     let count = check(part, written.place.start)?;
+    // By place: `check` saw that the two numbers are there, and a pattern would need an arm for fewer.
     let capacity = (part.len() - 2) / 2;
     let version = part[0] + 1;
     if version == VERSION_LIMIT {

@@ -84,7 +84,7 @@ fn planned(from: &[u64], source: usize, into: &[u64], destination: usize, keys: 
 
 // Merges the rows to copy among those of the destination, a row with the same key being replaced, and moves those behind
 // them once; where a part lies outside memory, the two overlap or there are to be fewer rows than before, nothing changes.
-// It says whether it was done, as `HashSet::insert` does: a `Result<(), E>` would have an error that holds nothing.
+// It says whether it was done, as `HashSet::insert` does: an error would hold nothing, and the one caller, for whom it is always done, drops it.
 pub fn merge_into(memory: &mut [u64], copying: Copying) -> bool
     ensures told { result ≡ fits copying (length memory.old) }
     ensures after { memory.new ≡ merged_into copying memory.old }

@@ -2,14 +2,9 @@
 use Rattle.std.proofs.Common.{◌≡◌, ℕ, zero, suc, ◌+◌, ◌-◌, ◌%◌, ◌<◌, ◌≤◌, Bool, true, false, cond, not, ◌&&◌, leb, List, [], ◌∷◌, length, get_or, Some, None, sym, refl, ◌∙◌, inl, inr, arith}
 use Rattle.std.proofs.lemmas.Bool.{cond_both, cond-true, cond-false, cases_Bool, cases_eq, or_parts, and_from, not-false, leb-false}
 use Rattle.std.proofs.lemmas.Bool.Decides.{nat_tests}
+use Rattle.std.proofs.lemmas.Option.{none-some, same_Some}
 use Rattle.std.specs.List.{position_from}
 use Rattle.policy.specs.Numbers.{first, places, at_fault, within, between, users_in, compartments_in, user_at, Fit}
-
-pub none_some : {X : Type 0} {x : X} → None ≡ Some x → ⊥
-none_some e = let z : ◌≡◌ {A = ℕ} 0 1 = cc in omega arith
-
-some_some : {i j : ℕ} → Some i ≡ Some j → i ≡ j
-some_some e = cc
 
 pub first_more : (f : ℕ → Bool) (i n m : ℕ) → n ≡ suc m → first f i n ≡ cond (f i) (Some i) (first f (i + 1) m)
 first_more f i n m e = rw e refl
@@ -34,7 +29,7 @@ pub first_none : (f : ℕ → Bool) (i n : ℕ) → first f i n ≡ None → (k 
 first_none f i zero e k low high = absurd (omega arith)
 first_none f i (suc n) e k low high =
     elim (cases_Bool (f i)) [
-      | inl t ↦ absurd (none_some (sym e ∙ cond-true (f i) (Some i) (first f (i + 1) n) t))
+      | inl t ↦ absurd (none-some _ (sym e ∙ cond-true (f i) (Some i) (first f (i + 1) n) t))
       | inr t ↦ elim (cases_eq k i) [
         | inl s ↦ rw s t
         | inr s ↦ first_none f (i + 1) n (sym (cond-false (f i) (Some i) (first f (i + 1) n) t) ∙ e) k (omega arith) (omega arith)
@@ -74,11 +69,11 @@ module _ (most : ℕ) (xs : List ℕ) (low : most ≤ 4096) (none : first (at_fa
 
 pub first_some : (f : ℕ → Bool) (i n p : ℕ) → first f i n ≡ Some p →
     (i ≤ p) × (p < i + n) × (f p ≡ true) × ((k : ℕ) → i ≤ k → k < p → f k ≡ false)
-first_some f i zero p e = absurd (none_some e)
+first_some f i zero p e = absurd (none-some _ e)
 first_some f i (suc n) p e =
     elim (cases_Bool (f i)) [
       | inl t ↦
-          let here : i ≡ p = some_some (sym (cond-true (f i) (Some i) (first f (i + 1) n) t) ∙ e) in
+          let here : i ≡ p = same_Some _ _ (sym (cond-true (f i) (Some i) (first f (i + 1) n) t) ∙ e) in
           (omega arith, omega arith, rw (sym here) t, λ k low high. absurd (omega arith))
       | inr t ↦
           let r = first_some f (i + 1) n p (sym (cond-false (f i) (Some i) (first f (i + 1) n) t) ∙ e) in (

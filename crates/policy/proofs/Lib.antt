@@ -1,3 +1,4 @@
+-- Lemmas on policies, from one step of a search to the laws.
 pub mod Steps
 pub mod Judging
 pub mod Reading

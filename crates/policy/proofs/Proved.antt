@@ -3,6 +3,7 @@ use Rattle.std.proofs.Common.{◌≡◌, ℕ, zero, suc, ◌+◌, ◌<◌, ◌�
 use Rattle.std.proofs.lemmas.List.{get_or-take, get_or-drop, length-take-le, length-map}
 use Rattle.std.proofs.lemmas.Bool.{and_parts, cases_Bool, ltb-true, lt-ltb, or_parts, or_cases, eqb-true, eqb-false, not-true, both_ways}
 use Rattle.std.proofs.lemmas.Bool.Decides.{Decides-below_and}
+use Rattle.std.proofs.lemmas.Option.{none-some}
 use Rattle.std.specs.Option.{option_map}
 use Rattle.policy.specs.Access.{rules_of, capacities_of, contract_at, place_at, place_in, Inside}
 use Rattle.policy.specs.Layout.{size, starts_from, end_from}
@@ -13,7 +14,7 @@ use Rattle.policy.specs.Views.{view_of, distinct_below, valid, nobody}
 use Rattle.policy.specs.declared.Policy.{Policy}
 use Rattle.policy.specs.declared.refusal.Refusal.TheVariants.{OutOfBounds, BadView}
 use Rattle.policy.specs.declared.contract.Contract.{Contract}
-use Rattle.policy.proofs.Judging.{first_none, first_some, none_some}
+use Rattle.policy.proofs.Judging.{first_none, first_some}
 use Rattle.policy.proofs.Steps.{all_at, within_at}
 
 -- which of the two judgements refused
@@ -109,7 +110,7 @@ contract_found p u k e =
           let h = ltb-true u p.users t in
           let found : Some k ≡ Some (get_or p.contracts u nobody) = rw t at e in
           let same : k ≡ get_or p.contracts u nobody = cc in (h, same ∙ sym (get_or-take p.users p.contracts u nobody h))
-      | inr f ↦ let none : Some k ≡ None = rw f at e in absurd (none_some (sym none))
+      | inr f ↦ let none : Some k ≡ None = rw f at e in absurd (none-some k (sym none))
     ]
 
 pub reads_rules : ReadsRules
@@ -124,7 +125,7 @@ reads_rules xs p r =
 
 implies : (x y : Bool) → Decides (not x || y) (x ≡ true → y ≡ true)
 implies true true = (λ _ _. refl, λ _. refl)
-implies true false = (λ e. absurd (let z : ◌≡◌ {A = ℕ} 0 1 = cc in omega arith), λ f. f refl)
+implies true false = (λ e. absurd cc, λ f. f refl)
 implies false y = (λ _ e. cc, λ _. refl)
 
 pub flows_both_ways : FlowsBothWays

@@ -1,5 +1,5 @@
 -- Contracts that were read say what the numbers say: they are judged alike, and fit the tables.
-use Rattle.std.proofs.Common.{◌≡◌, ℕ, ◌+◌, ◌<◌, ◌≤◌, true, not, leb, List, length, get_or, take, drop, None, position, sym, refl, ap, ◌∙◌, arith}
+use Rattle.std.proofs.Common.{◌≡◌, ℕ, ◌+◌, ◌<◌, ◌≤◌, true, not, leb, List, length, get_or, take, drop, None, Option, position, sym, refl, ap, ◌∙◌, arith}
 use Rattle.std.proofs.lemmas.Iterator.Adapters.{position_from-zero}
 use Rattle.std.proofs.lemmas.List.{get_or-take, get_or-drop, length-take, length-drop, length-take-le}
 use Rattle.std.proofs.lemmas.Bool.{not-false, le-leb}
@@ -24,6 +24,10 @@ module _ (xs : List ℕ) (cs : List Contract) (long : users_in xs ≤ length cs)
       position_from-zero _ (take (users_in xs) cs)
       ∙ position_first _ nobody (bad_view xs) 0 (take (users_in xs) cs) (λ k h. let on : 0 + k ≡ k = omega arith in rw on (sym (judged_alike k (omega (arith, n)))))
       ∙ ap (first (bad_view xs) 0) n
+
+  -- the same of what was found with the two counts at hand
+  pub views_by : (o : Option ℕ) (u n : ℕ) → u ≡ users_in xs → n ≡ compartments_in xs → o ≡ position (λ c. not (valid n c)) (take u cs) → o ≡ first (bad_view xs) 0 (users_in xs)
+  views_by o u n users compartments found = rw (users, compartments) at found ∙ views_alike
 
   pub all_stand : first (bad_view xs) 0 (users_in xs) ≡ None → all_valid (compartments_in xs) (take (users_in xs) cs) ≡ true
   all_stand none =

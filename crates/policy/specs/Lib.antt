@@ -1,3 +1,4 @@
+-- What the contracts of this crate cite, and the laws over it.
 pub mod Lists
 pub mod Rules
 pub mod Refusals

@@ -1,12 +1,13 @@
 -- A policy in numbers: how many users and compartments there are; for each user eighteen numbers, how many compartments they
 -- see, sixteen places for them, and the one in which they write; and for each compartment its capacity.
-use Rattle.std.specs.Prelude.{ℕ, ◌+◌, ◌-◌, ◌*◌, ◌%◌, ◌<◌, ◌≤◌, Bool, true, cond, not, ◌&&◌, ◌||◌, List, length, take, drop, Some, None, Option, ◌==◌, nat_le, slice_index}
+use Rattle.std.specs.Prelude.{ℕ, ◌+◌, ◌-◌, ◌*◌, ◌%◌, ◌<◌, ◌≤◌, Bool, true, cond, not, ◌&&◌, ◌||◌, List, length, take, drop, Option, ◌==◌, nat_le, slice_index}
 use Rattle.policy.specs.Rules.{Rules}
 use Rattle.policy.specs.Views.{stands}
 use Rattle.policy.specs.declared.refusal.Refusal.{Refusal}
 use Rattle.policy.specs.declared.refusal.Refusal.TheVariants.{OutOfBounds, BadView}
 use Rattle.std.specs.List.{find, range_with_len}
 use Rattle.std.specs.Option.{option_map}
+pub use Rattle.std.specs.Option.{option_or as or_else}
 
 abbrev pub users_in : List ℕ → ℕ
 users_in xs = slice_index xs 0
@@ -60,10 +61,6 @@ fault most xs = option_map (λ place. OutOfBounds place) (first (at_fault most x
 
 abbrev pub bad : List ℕ → Option Refusal
 bad xs = option_map (λ user. BadView user) (first (bad_view xs) 0 (users_in xs))
-
-abbrev pub or_else : Option Refusal → Option Refusal → Option Refusal
-or_else None next = next
-or_else (Some why) next = Some why
 
 -- why a policy is refused, if it is
 abbrev pub judged : ℕ → List ℕ → Option Refusal

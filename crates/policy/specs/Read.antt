@@ -1,12 +1,13 @@
 -- What reading a policy gives: the rules that the numbers hold.
-use Rattle.std.specs.Prelude.{◌≡◌, ℕ, ◌<◌, true, List, length, take, drop, Some, None, Ok, Err, Option, Result, slice_index_or}
+use Rattle.std.specs.Prelude.{◌≡◌, ℕ, ◌<◌, true, List, length, take, drop, slice_index_or}
 use Rattle.policy.specs.Access.{capacities_of}
 use Rattle.policy.specs.Policies.{all_valid}
 use Rattle.policy.specs.Views.{view_of, nobody}
 use Rattle.policy.specs.Numbers.{users_in, compartments_in, user_at, view_in, writes_in}
 use Rattle.policy.specs.declared.contract.Contract.{Contract}
 use Rattle.policy.specs.declared.Policy.{Policy}
-use Rattle.policy.specs.declared.refusal.Refusal.{Refusal}
+-- why reading was refused, if it was
+pub use Rattle.std.specs.Result.{result_err as why}
 
 -- the contract of user u as the numbers have it
 pub record Says (xs : List ℕ) (u : ℕ) (c : Contract) : Type 0 where
@@ -29,8 +30,3 @@ pub record Reads (xs : List ℕ) (p : Policy) : Type 0 where
   pub compartments : p.compartments ≡ compartments_in xs
   pub contracts : Say xs p.users p.contracts
   pub capacities : capacities_of p ≡ take (compartments_in xs) (drop (user_at (users_in xs)) xs)
-
--- why reading was refused, if it was
-abbrev pub why : {X : Type 0} → Result X Refusal → Option Refusal
-why (Ok x) = None
-why (Err e) = Some e

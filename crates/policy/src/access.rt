@@ -82,6 +82,7 @@ impl Policy {
         Some(self.place_in(compartment as usize))
     }
 
+    // By index: through `get` the proof that the place lies within memory didn't close.
     fn place_in(&self, compartment: usize) -> Place
         requires { compartment < self.now.compartments }
         ensures value { result ≡ place_in self.now compartment }
@@ -98,10 +99,7 @@ impl Policy {
     {
         let compartment = self.contract(user)?.writes();
         let place = self.place(compartment)?;
-        Some(Written {
-            compartment,
-            place,
-        })
+        Some(Written { compartment, place })
     }
 
     // Where a user's cache begins, if they are there.

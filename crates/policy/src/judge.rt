@@ -14,7 +14,7 @@ pub(crate) fn contracts(numbers: &Numbers) -> Result<[Contract; USERS], Refusal>
     ensures stand { IfOk result (λ cs. Stand numbers.now.all.now cs) }
 {
     let contracts = Contract::of_users(numbers);
-    // A `map_or` with `Ok` and `Err` would say no more than this match.
+    // Here alone a user becomes a refusal: a `map_or` with `Ok` and `Err` would say no more than this match.
     match bad_view(&contracts[..numbers.users()], numbers.compartments()) {
         Some(user) => Err(Refusal::BadView { user }),
         None => Ok(contracts),
@@ -78,13 +78,15 @@ impl Counted<'_> {
     fn is_fault(&self, place: usize) -> bool
         ensures { result ≡ at_fault self.now.most self.now.numbers.now place }
     {
+        // As `is_none_or` it was tried: its closure would need a clause of its own.
         match self.numbers.get(place) {
             Some(n) => !self.is_within(place, *n),
             None => true,
         }
     }
 
-    // The bounds of the counts and of the capacities; no other number has any.
+    // The bounds of the counts and of the capacities; no other number has any. Of all places, as `within` has them, though the
+    // search begins behind the first two.
     fn is_within(&self, place: usize, n: u64) -> bool
         ensures { result ≡ within self.now.most self.now.users place n }
     {

@@ -26,9 +26,9 @@ pub use sizes::{CACHE, CAPACITY, COMPARTMENTS, COUNTS, USER, USERS};
 // A policy that was judged, with all that a request asks of it worked out.
 #[derive(Clone, Copy)]
 pub struct Policy {
-    // The first `users` contracts and the first `compartments` places count. They are no `ArrayList`s: the promises of the
-    // crates above name the two counts. Two lists with the counts as ghost fields were tried: that needs a Model, and with
-    // one the law that every policy is valid no longer has the facts of the fields.
+    // The first `users` contracts and the first `compartments` places count. They are no `ArrayList`s: this was tried, with the
+    // counts, which the promises of the crates above name, as ghost fields. It needs a Model, and the law that every policy is
+    // valid, which is over policies as values, then has none of the facts of the fields.
     users: usize,
     compartments: usize,
     contracts: [Contract; USERS],

@@ -21,7 +21,7 @@ impl<'a> Numbers<'a> {
         ensures refused { why result ≡ fault most numbers.now }
         ensures same { IfOk result (λ n. n.all.now ≡ numbers.now) }
     {
-        // A `map_or` with `Ok` and `Err` would say no more than this match.
+        // Here alone a place becomes a refusal: a `map_or` with `Ok` and `Err` would say no more than this match.
         match lowest_fault(numbers, most) {
             Some(place) => Err(Refusal::OutOfBounds { place }),
             None => Ok(Numbers { all: numbers }),

@@ -2,6 +2,8 @@
 ghost use Rattle.std.specs.Prelude.{◌≡◌, ◌≤◌};
 ghost use Rattle.policy.specs.Numbers.{user_at};
 
+// Contracts say these as numbers, so that a clause is read without looking them up.
+
 pub const USERS: usize = 32;
 
 pub const COMPARTMENTS: usize = 16;

@@ -2,10 +2,10 @@
 use Rattle.std.proofs.Common.{◌≡◌, ℕ, ◌+◌, ◌-◌, ◌*◌, ◌≤◌, max, true, leb, List, [], ◌∷◌, length, drop, refl, inl, inr, arith}
 use Rattle.std.proofs.lemmas.List.{length-append, length-drop, length-map, length-replicate, length-take}
 use Rattle.std.proofs.lemmas.Bool.{cases_Bool, and_parts, leb-true}
-use Rattle.rows.specs.declared.Row.{Row}
 use Rattle.rows.specs.declared.KeyRange.{KeyRange}
-use Rattle.rows.specs.Halving.{flat, rows_of, position}
-use Rattle.rows.specs.Numbers.{range_part, first_is, skipped, merged}
+use Rattle.rows.specs.Halving.{flat, position}
+use Rattle.rows.specs.Numbers.{range_part}
+use Rattle.rows.proofs.Passes.{length_shared}
 use Rattle.rows.proofs.Places.{length_flat}
 use Rattle.query.specs.declared.Query.{Query}
 use Rattle.query.specs.declared.Query.TheVariants.{Rows, Total, Shared}
@@ -20,17 +20,6 @@ range_short range part =
 cut_short : (range : KeyRange) (parts : List (List ℕ)) → length (cut range parts) ≤ lengths parts
 cut_short range [] = omega arith
 cut_short range (p ∷ ps) = omega (arith, length-append (range_part range p) (cut range ps), range_short range p, cut_short range ps)
-
-merged_short : (xs ys : List Row) → length (merged xs ys) ≤ length xs
-merged_short [] ys = omega arith
-merged_short (x ∷ xs) ys =
-    let i = merged_short xs (skipped x.key ys) in
-    elim (cases_Bool (first_is x.key (skipped x.key ys))) [ inl e ↦ rw e (omega arith) | inr e ↦ rw e (omega arith) ]
-
-rows_short : (xs : List ℕ) → 2 * length (rows_of xs) ≤ length xs
-rows_short [] = omega arith
-rows_short (x ∷ []) = omega arith
-rows_short (x ∷ y ∷ xs) = omega (arith, rows_short xs)
 
 written_long : (heads rows row : List ℕ) → length heads ≤ 32 → 32 + length rows ≤ length row → length (written heads rows row) ≡ length row
 written_long heads rows row h k = simp (length-append, length-drop, length-replicate) (omega arith)
@@ -48,7 +37,7 @@ shared_keeps range (a ∷ b ∷ []) row = elim (cases_Bool (fits (a ∷ []) (len
       let f = (fitting (a ∷ []) (length row) e).1 in
       let rs = common (range_part range a) b in
       rw e (written_long (length rs ∷ []) (flat rs) row (omega arith)
-      (omega (arith, length_flat rs, merged_short (rows_of (range_part range a)) (rows_of b), rows_short (range_part range a), range_short range a)))
+      (omega (arith, length_flat rs, length_shared (range_part range a) b, range_short range a)))
   | inr e ↦ rw e refl
 ]
 shared_keeps range (a ∷ b ∷ c ∷ ps) row = refl

@@ -97,7 +97,7 @@ more_shared rows range cs ds sub a b l e = elim (cases_Bool (has cs a && has cs 
   | inl h ↦
       let parts = and_parts (has cs a) (has cs b) h in
       rw (sub a parts.0, sub b parts.1) (rw h at e)
-  | inr h ↦ let g = rw h at e in let z : ◌≡◌ {A = ℕ} 0 1 = cc in absurd (omega arith)
+  | inr h ↦ let g = rw h at e in absurd cc
 ]
 
 pub more_seen : MoreSeen

@@ -5,12 +5,12 @@ ghost use Rattle.policy.specs.Views.{view_of};
 ghost use Rattle.query.specs.Looks.{looked_at, places_of};
 
 use crate::Query;
-use policy::{ArrayList, Contract};
+use policy::{ArrayList, COMPARTMENTS, Contract};
 
 // A query's code is lent the parts of these compartments, in their order, and nothing else.
 #[derive(Clone, Copy)]
 pub struct LookedAt {
-    compartments: ArrayList<u64, 16>,
+    compartments: ArrayList<u64, COMPARTMENTS>,
 }
 
 // All that the user sees; for shared the two that are compared, or none if the user does not see both.

@@ -4,6 +4,7 @@ ghost use Rattle.rows.specs.Numbers.{range_part};
 ghost use Rattle.query.specs.Numbers.{fits, lengths, counts, count_in, amount_in, cut, common, written_lists, written_list, rows_outcome, total_outcome, list_outcome, shared_outcome, shared_row, outcome, row_after};
 
 use crate::{Answered, HEADER, Outcome, Query};
+use policy::COMPARTMENTS;
 use rows::KeyRange;
 use std::marker::Model;
 
@@ -41,7 +42,7 @@ impl Parts<'_> {
     fn fit(&self, long: usize) -> bool
         ensures { result ≡ fits self.now long }
     {
-        self.parts.len() <= 16 && long >= HEADER && self.has_room(long - HEADER)
+        self.parts.len() <= COMPARTMENTS && long >= HEADER && self.has_room(long - HEADER)
     }
 
     fn has_room(&self, room: usize) -> bool
@@ -49,10 +50,10 @@ impl Parts<'_> {
     {
         let mut left = room;
         for part in self.parts {
-            if part.len() > left {
+            let Some(rest) = left.checked_sub(part.len()) else {
                 return false;
-            }
-            left -= part.len();
+            };
+            left = rest;
         }
         true
     }
@@ -116,14 +117,17 @@ impl Parts<'_> {
         ensures told { result ≡ shared_outcome range self.now (length row.old) }
         ensures after { row.new ≡ shared_row range self.now row.old }
     {
-        match self.parts {
-            [a, b] if Parts { parts: &[a] }.fit(row.len()) => Some(write_shared(a, b, range, row)),
-            [_, _] => None,
-            _ => Some(Outcome {
+        let [a, b] = self.parts else {
+            return Some(Outcome {
                 answered: Answered::NotSeen,
                 examined: 0,
-            }),
+            });
+        };
+        let lent = Parts { parts: &[a] };
+        if !lent.fit(row.len()) {
+            return None;
         }
+        Some(write_shared(a, b, range, row))
     }
 }
 

@@ -51,8 +51,7 @@ first_differs x xs ys u e =
     let t = eq-eqb x.key x.key refl in
     let n = amount_none x.key ys (key_none x.key (suc x.key) ys (omega arith) u) in
     let f = rw (t, n) at e in
-    let z : ◌≡◌ {A = ℕ} 0 1 = cc in
-    omega arith
+    cc
 
 same_row : (x y : Row) → x.key ≡ y.key → x.amount ≡ y.amount → x ≡ y
 same_row x y p q = ap (λ k. record { key = k; amount = x.amount }) p ∙ ap (λ a. record { key = y.key; amount = a }) q

@@ -1,6 +1,6 @@
 // Whether a user's contract may stand.
 ghost use Rattle.std.specs.Prelude.{◌≡◌};
-ghost use Rattle.policy.specs.Views.{distinct_below, stands, valid};
+ghost use Rattle.policy.specs.Views.{distinct_below, valid};
 
 use super::Contract;
 
@@ -9,25 +9,20 @@ impl Contract {
     pub fn is_valid(&self, compartments: u64) -> bool
         ensures { result ≡ valid compartments self.now }
     {
-        is_view(self.view(), compartments, self.writes)
+        let view = self.view();
+        is_distinct(view, compartments) && view.contains(&self.writes)
     }
-}
-
-// Nothing twice, nothing that isn't there, and the compartment written in among them.
-fn is_view(view: &[u64], compartments: u64, writes: u64) -> bool
-    ensures { result ≡ stands compartments view.now writes }
-{
-    is_distinct(view, compartments) && view.contains(&writes)
 }
 
 fn is_distinct(view: &[u64], compartments: u64) -> bool
     ensures { result ≡ distinct_below compartments view.now }
 {
-    // As `all` over these pairs it was tried: its closure does not know that the place lies within the view.
-    for (i, compartment) in view.iter().enumerate() {
-        if *compartment >= compartments || view[i + 1..].contains(compartment) {
+    let mut view = view;
+    while let [compartment, rest @ ..] = view {
+        if *compartment >= compartments || rest.contains(compartment) {
             return false;
         }
+        view = rest;
     }
     true
 }

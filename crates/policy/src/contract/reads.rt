@@ -20,6 +20,7 @@ impl Contract {
                 writes: 0,
             };
         }
+        // By place: judged numbers are there, and a pattern over them would need an arm for fewer.
         let at = user_at(user);
         let all = numbers.all;
         let seen = all[at] as usize;

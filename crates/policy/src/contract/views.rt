@@ -4,11 +4,11 @@ ghost use Rattle.policy.specs.Rules.{has};
 ghost use Rattle.policy.specs.Views.{view_of};
 
 use super::Contract;
-use crate::ArrayList;
+use crate::{ArrayList, COMPARTMENTS};
 
 impl Contract {
     // Whether it may stand is judged apart.
-    pub fn new(view: ArrayList<u64, 16>, writes: u64) -> Contract
+    pub fn new(view: ArrayList<u64, COMPARTMENTS>, writes: u64) -> Contract
         ensures view { view_of result ≡ view.items }
         ensures writes { result.writes ≡ writes }
     {

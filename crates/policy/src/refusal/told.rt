@@ -3,6 +3,7 @@ ghost use Rattle.std.specs.Prelude.{◌≡◌, Some};
 ghost use Rattle.policy.specs.Refusals.{number_of, place_of, refusal_line};
 
 use super::Refusal;
+use crate::USERS;
 use std::fmt;
 
 impl Refusal {
@@ -21,7 +22,7 @@ impl Refusal {
         }
     }
 
-    // Wider than a compartment's number, so that the sum fits whatever it is.
+    // A compartment that may not be copied comes behind all users. Wider than its number, so that the sum fits whatever it is.
     pub fn place(self) -> u128
         ensures { result ≡ place_of self }
     {
@@ -33,7 +34,7 @@ impl Refusal {
             | Refusal::NoRoom { capacity: n }
             | Refusal::ShortRow { length: n } => n as u128,
             Refusal::LastVersion { compartment } => u128::from(compartment),
-            Refusal::NoFlow { compartment } => 32 + u128::from(compartment),
+            Refusal::NoFlow { compartment } => USERS as u128 + u128::from(compartment),
             Refusal::NoRow { key } => u128::from(key),
         }
     }

@@ -1,3 +1,4 @@
+-- Judged numbers and contracts that stand give what a policy always holds.
 use Rattle.std.proofs.Common.{sym, arith}
 use Rattle.policy.proofs.Reading.{capacities_within, capacities_taken}
 use Rattle.policy.proofs.Steps.{end_within}

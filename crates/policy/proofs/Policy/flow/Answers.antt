@@ -1,3 +1,4 @@
+-- A look into the table is what the rules say.
 use Rattle.std.proofs.Common.{false, [], length, get_or, take, refl, ap, ◌∙◌, arith}
 use Rattle.std.proofs.lemmas.List.{length-take-le}
 use Rattle.std.proofs.lemmas.List.FromFn.{get_or-map-range_with_len}

@@ -1,3 +1,4 @@
+-- The place of a compartment that is there lies within the memory that the policy asks for.
 use Rattle.std.proofs.Common.{◌≡◌, arith, slice_index_or}
 use Rattle.std.proofs.lemmas.Grind.{common_steps}
 use Rattle.policy.specs.Access.{place_in}

@@ -1,3 +1,4 @@
+-- The two counts, and then the rest, in one search from the first place.
 use Rattle.std.proofs.Common.{◌≡◌, ◌+◌, ◌-◌, ◌*◌, get_or, sym, ◌∙◌, arith}
 use Rattle.std.proofs.lemmas.Bool.Decides.{nat_tests}
 use Rattle.policy.specs.Numbers.{at_fault, places}

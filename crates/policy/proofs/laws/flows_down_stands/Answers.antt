@@ -1,3 +1,4 @@
+-- The proof of what `flows_down_stands` carries.
 use Rattle.policy.proofs.Proved.{flows_down}
 use Rattle.policy.proofs.laws.flows_down_stands.Goals as goal
 

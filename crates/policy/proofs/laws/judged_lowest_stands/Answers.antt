@@ -1,3 +1,4 @@
+-- The proof of what `judged_lowest_stands` carries.
 use Rattle.policy.proofs.Proved.{judged_lowest}
 use Rattle.policy.proofs.laws.judged_lowest_stands.Goals as goal
 

@@ -1,3 +1,4 @@
+-- The proof of what `policies_valid_stands` carries.
 use Rattle.policy.proofs.Proved.{policies_valid}
 use Rattle.policy.proofs.laws.policies_valid_stands.Goals as goal
 

@@ -1,3 +1,4 @@
+-- Each row of the table is what its call made.
 use Rattle.std.proofs.Common.{◌≡◌, [], refl, ap, ◌∙◌, arith}
 use Rattle.std.proofs.lemmas.List.FromFn.{fill_by_all}
 use Rattle.policy.specs.Policies.{flow_row}

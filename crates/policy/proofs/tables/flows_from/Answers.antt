@@ -1,3 +1,4 @@
+-- Each place of a row says whether everybody lets the rows flow there.
 use Rattle.std.proofs.Common.{◌≡◌, false, [], length, refl, ap, ◌∙◌, arith}
 use Rattle.std.proofs.lemmas.List.FromFn.{fill_by_all}
 use Rattle.std.specs.List.{list_all}

@@ -1,3 +1,4 @@
+-- What is placed so far lies one behind the other, and ends where the next begins.
 use Rattle.std.proofs.Common.{◌≡◌, ◌*◌, ◌≤◌, ◌++◌, take, drop}
 use Rattle.policy.specs.Layout.{starts_from, end_from}
 use Rattle.policy.specs.Policies.{capacities_in, starts_in}

@@ -1,3 +1,4 @@
+-- Each contract is what the numbers of its user say.
 use Rattle.std.proofs.Common.{◌≡◌, ◌<◌, refl, ◌∙◌, arith}
 use Rattle.policy.specs.Numbers.{users_in}
 use Rattle.policy.specs.Read.{Says}

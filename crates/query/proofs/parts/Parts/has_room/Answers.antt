@@ -5,8 +5,8 @@ use Rattle.query.specs.Numbers.{lengths}
 use Rattle.query.proofs.Steps.{lengths_more}
 use Rattle.query.proofs.parts.Parts.has_room.Goals as goal
 
-pub returns-then-part-left : goal.returns-then-part-left
-returns-then-part-left c =
+pub returns-in_default : goal.returns-in_default
+returns-in_default c =
     let e = lengths_more c.self.inside.parts.now c.loop-part.part-index c.loop-part-test.true in
     let v = ap lengths c.self.view_is in
     grind (arith, nat_tests)

@@ -1,5 +1,5 @@
 -- The worked example computes.
-use Rattle.std.proofs.Common.{◌≡◌, ℕ, zero, suc, refl, arith}
+use Rattle.std.proofs.Common.{zero, suc, refl, arith}
 use Rattle.policy.specs.Rules.{Sound}
 use Rattle.model.specs.Example.{three, Worked, SoundnessNeeded}
 

@@ -1,5 +1,5 @@
 -- A refusal leaves memory as it was, whatever it holds.
-use Rattle.std.proofs.Common.{◌≡◌, ℕ, ◌+◌, Bool, true, false, cond, eqb, List, length, get_or, is_ok, Some, None, Ok, Err, Option, Result, refl, arith}
+use Rattle.std.proofs.Common.{◌≡◌, ℕ, ◌+◌, Bool, true, false, cond, eqb, List, length, get_or, is_ok, Some, None, Ok, Err, Option, Result, refl}
 use Rattle.answering.specs.Asked.{asked_told, asked_row}
 use Rattle.answering.proofs.Refused.{refusals_leave}
 use Rattle.compartment.specs.Parts.{write_told, write_after, delete_told, delete_after}

@@ -15,8 +15,8 @@ mod part;
 mod reply;
 
 pub use answering::ask;
-use part::room_of;
 use copying::Between;
+use part::room_of;
 use policy::{Policy, Refusal, Written};
 pub use reply::Reply;
 use request::Request;

@@ -42,12 +42,14 @@ impl Between<'_> {
     }
 
     // Copies the rows of a range: all of them, or none.
+    // Not by `self`: where that is taken apart and written on some paths only, the checker makes no proof yet.
     pub(crate) fn copy(&mut self, range: KeyRange) -> Result<(), Refusal>
         ensures same_reference { self.new.memory.ghost_name ≡ self.old.memory.ghost_name }
         ensures told { result ≡ between_told self.old.from self.old.written range self.old.memory.now }
         ensures after { self.new.memory.now ≡ between_memory self.old.from self.old.written range self.old.memory.now }
     {
         let counts = self.check()?;
+        // By names of their own: as fields of `self` they were tried, and four goals stayed open.
         let from = self.from;
         let written = self.written;
         let memory = &mut *self.memory;

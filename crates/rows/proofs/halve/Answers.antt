@@ -18,7 +18,5 @@ loop-low-preserved c =
     let i = c.loop-low.invariant in
     (omega arith, omega arith, lower_half _ _ _ _ _ i.2.0 (omega arith) i.2.1 (omega arith) i.2.2)
 
-pub returns : goal.returns
-returns c =
-    let i = c.loop-low.invariant in
-    record { value = no_half _ _ _ _ _ i.2.0 (omega arith) i.2.2; within = omega arith }
+pub returns-clause-value : goal.returns-clause-value
+returns-clause-value c = let i = c.loop-low.invariant in no_half _ _ _ _ _ i.2.0 (omega arith) i.2.2

@@ -1,13 +1,7 @@
 -- A turn writes one of the rows that are still to come.
-use Rattle.std.proofs.Common.{refl, ap, ◌∙◌, arith}
-use Rattle.rows.specs.Passes.{shared_rows}
+use Rattle.std.proofs.Common.{arith}
 use Rattle.rows.proofs.Passes.{length_shared, still_room, passed_one, passed_all}
 use Rattle.rows.proofs.merge.Goals as goal
-
-pub loop-row-init : goal.loop-row-init
-loop-row-init c =
-    let e = ap shared_rows c.into_iter-row-iterator.ensures.into_iter_gives ∙ c.new-row-items.ensures in
-    (tt, tt, rw e (record { count = omega arith; front = refl; behind = refl }))
 
 pub set_row-requires : goal.set_row-requires
 set_row-requires c =
@@ -24,7 +18,6 @@ loop-row-preserved c =
     let so = rw c.in-Some.ensures.steps at c.loop-row.invariant.2 in
     (tt, tt, rw c.set_row.ensures (passed_one _ _ _ _ _ _ so (omega (arith, length_shared c.args.a.now c.args.b.now))))
 
-pub returns : goal.returns
-returns c =
-    let d = passed_all _ _ _ _ (rw c.in-None.ensures.steps.0 at c.loop-row.invariant.2) in
-    record { told = d.0; after = d.1; within = omega (arith, d.0, length_shared c.args.a.now c.args.b.now) }
+pub returns-clause-within : goal.returns-clause-within
+returns-clause-within c =
+    let d = passed_all _ _ _ _ (rw c.in-None.ensures.steps.0 at c.loop-row.invariant.2) in omega (arith, d.0, length_shared c.args.a.now c.args.b.now)

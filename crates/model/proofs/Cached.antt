@@ -2,7 +2,7 @@
 use Rattle.std.proofs.Common.{◌≡◌, ℕ, suc, ◌<◌, ◌≤◌, true, false, ◌&&◌, eqb, List, [], ◌∷◌, map, is_some, Some, sum, sym, refl, ap, inl, inr, arith}
 use Rattle.std.specs.List.{AllByRecursion}
 use Rattle.std.proofs.ByRecursion.{All-weaker}
-use Rattle.std.proofs.lemmas.Bool.{cases_Bool, and_parts, and_from, and_right, eqb-true, eq-eqb, ne_eqb, or_cases, both_ways, cases_eq}
+use Rattle.std.proofs.lemmas.Bool.{cases_Bool, and_parts, and_from, and_right, eqb-true, eq-eqb, ne_eqb, or_cases, cases_eq}
 use Rattle.std.proofs.lemmas.List.Sums.{sum_by-cons}
 use Rattle.rows.specs.declared.Row.{Row}
 use Rattle.rows.specs.declared.KeyRange.{KeyRange}
@@ -22,13 +22,13 @@ same_range_is r s h =
 
 pub same_query_is : (q r : Query) → same_query q r ≡ true → q ≡ r
 same_query_is (Rows r) (Rows s) h = ap Rows (same_range_is r s h)
-same_query_is (Rows r) (Total s) h = absurd (both_ways false refl h)
-same_query_is (Rows r) (Shared a b s) h = absurd (both_ways false refl h)
-same_query_is (Total r) (Rows s) h = absurd (both_ways false refl h)
+same_query_is (Rows r) (Total s) h = absurd cc
+same_query_is (Rows r) (Shared a b s) h = absurd cc
+same_query_is (Total r) (Rows s) h = absurd cc
 same_query_is (Total r) (Total s) h = ap Total (same_range_is r s h)
-same_query_is (Total r) (Shared a b s) h = absurd (both_ways false refl h)
-same_query_is (Shared c d r) (Rows s) h = absurd (both_ways false refl h)
-same_query_is (Shared c d r) (Total s) h = absurd (both_ways false refl h)
+same_query_is (Total r) (Shared a b s) h = absurd cc
+same_query_is (Shared c d r) (Rows s) h = absurd cc
+same_query_is (Shared c d r) (Total s) h = absurd cc
 same_query_is (Shared c d r) (Shared a b s) h =
     let e = and_parts (eqb c a) (eqb d b && same_range r s) h in
     let f = and_parts (eqb d b) (same_range r s) e.1 in
@@ -47,8 +47,8 @@ same_query_refl (Shared a b r) = and_from (eqb a a) (eqb b b && same_range r r) 
 
 same_versions_is : (ms ns : List ℕ) → same_versions ms ns ≡ true → ms ≡ ns
 same_versions_is [] [] h = refl
-same_versions_is [] (n ∷ ns) h = absurd (both_ways false refl h)
-same_versions_is (m ∷ ms) [] h = absurd (both_ways false refl h)
+same_versions_is [] (n ∷ ns) h = absurd cc
+same_versions_is (m ∷ ms) [] h = absurd cc
 same_versions_is (m ∷ ms) (n ∷ ns) h =
     let e = and_parts (eqb m n) (same_versions ms ns) h in
     let f = eqb-true m n e.0 in
@@ -77,7 +77,7 @@ raised_no_less f c (d ∷ ds) = let i = raised_no_less f c ds in rw (sum_by-cons
 ])
 
 pub raised_more : (f : ℕ → ℕ) (c : ℕ) (cs : List ℕ) → has cs c ≡ true → sum (map f cs) < sum (map (raised f c) cs)
-raised_more f c [] h = absurd (both_ways false refl h)
+raised_more f c [] h = absurd cc
 raised_more f c (d ∷ ds) h = rw (sum_by-cons (λ n. n) (f d) (map f ds), sum_by-cons (λ n. n) (raised f c d) (map (raised f c) ds)) (elim (cases_eq c d) [
   | inl e ↦ let i = raised_no_less f c ds in rw (eq-eqb c d e) (let g : f d ≡ f c = ap f (sym e) in omega arith)
   | inr e ↦ elim (or_cases (eqb d c) (has ds c) h) [

@@ -1,5 +1,5 @@
 -- A refusal leaves memory and the answer row as they were.
-use Rattle.std.proofs.Common.{◌≡◌, ℕ, Bool, true, false, cond, ltb, List, [], ◌∷◌, length, Some, None, Ok, Err, Option, Result, refl, inl, inr, arith}
+use Rattle.std.proofs.Common.{◌≡◌, ℕ, Bool, true, false, cond, ltb, List, [], ◌∷◌, length, Some, None, Ok, Err, Option, Result, refl, inl, inr}
 use Rattle.std.proofs.lemmas.Bool.{cases_Bool}
 use Rattle.policy.specs.declared.contract.Contract.{Contract}
 use Rattle.policy.specs.declared.Policy.{Policy}
@@ -36,26 +36,23 @@ module _ {X Y : Type 0} (P : X → Y → Type 0) (stop : Refusal → X) (halt : 
     both_checked : P (checked stop give p memory long user query) (checked halt hand p memory long user query)
     both_checked = both_if (ltb (length memory) (memory_length p)) _ _ (both_by (contract_at p user) (cache_at p user))
 
-never_refused : (told : Outcome) (r : Refusal) → ◌≡◌ {A = Result Outcome Refusal} (Ok told) (Err r) → ⊥
-never_refused told r e = let z : ◌≡◌ {A = ℕ} 0 1 = cc in omega arith
-
 -- where nothing is worked out, the row stays
 row_stays : (query : Query) (ps : List (List ℕ)) (row : List ℕ) (why r : Refusal) → ok_or (outcome query ps (length row)) why ≡ Err r → row_after query ps row ≡ row
 row_stays (Rows range) ps row why r e = elim (cases_Bool (fits ps (length row))) [
-  | inl f ↦ absurd (never_refused _ r (rw f at e))
+  | inl f ↦ let g = rw f at e in absurd cc
   | inr f ↦ rw f refl
 ]
 row_stays (Total range) ps row why r e = refl
 row_stays (Shared a b range) [] row why r e = refl
 row_stays (Shared a b range) (x ∷ []) row why r e = refl
 row_stays (Shared a b range) (x ∷ y ∷ []) row why r e = elim (cases_Bool (fits (x ∷ []) (length row))) [
-  | inl f ↦ absurd (never_refused _ r (rw f at e))
+  | inl f ↦ let g = rw f at e in absurd cc
   | inr f ↦ rw f refl
 ]
 row_stays (Shared a b range) (x ∷ y ∷ z ∷ ps) row why r e = refl
 
 again_refused : (x : Result Outcome Refusal) (r : Refusal) → told_again x ≡ Err r → x ≡ Err r
-again_refused (Ok told) r e = absurd (never_refused _ r e)
+again_refused (Ok told) r e = absurd cc
 again_refused (Err q) r e = e
 
 recalled_stays : (k : Kept) (x : Result Outcome Refusal) (again row : List ℕ) (r : Refusal) → (x ≡ Err r → again ≡ row) → recalled k x ≡ Err r → recalled_row k again row ≡ row

@@ -17,7 +17,7 @@ use Rattle.cache.specs.declared.Kept.TheVariants.{Rows, Total, Shared, NotSeen}
 use Rattle.cache.specs.Kept.{kept_from}
 use Rattle.cache.specs.Places.{look_up, keep_in}
 use Rattle.answering.specs.Places.{version_at, part_at, damaged}
-use Rattle.std.specs.Option.{ok_or}
+use Rattle.std.specs.Option.{ok_or, option_map}
 
 -- the versions of some compartments
 abbrev pub versions_in : Policy → List ℕ → List ℕ → List ℕ
@@ -89,14 +89,10 @@ row_by p memory view query row None = worked_row p memory view query row
 abbrev pub found : Policy → List ℕ → List ℕ → ℕ → Query → Option Kept
 found p memory view at query = look_up query (versions_in p memory view) (cache_part at memory)
 
-abbrev pub out_of_bounds : Option ℕ → Option Refusal
-out_of_bounds None = None
-out_of_bounds (Some place) = Some (OutOfBounds place)
-
 -- a row must be as long as needed, and then what is seen must be in bounds; neither is looked at where it is not seen
 abbrev pub refusal_by : ℕ → Option ℕ → Option ℕ → Option Refusal
 refusal_by long None fault = None
-refusal_by long (Some needed) fault = cond (nat_lt long needed) (Some (ShortRow long)) (out_of_bounds fault)
+refusal_by long (Some needed) fault = cond (nat_lt long needed) (Some (ShortRow long)) (option_map OutOfBounds fault)
 
 abbrev pub refusal_of : Policy → List ℕ → ℕ → List ℕ → Query → Option Refusal
 refusal_of p memory long view query = refusal_by long (needed_for (rules_of p).capacity view query) (damaged p memory view)

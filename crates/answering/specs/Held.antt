@@ -21,7 +21,7 @@ row_in h a row = worked_row h.policy.now h.memory.now (view_of a.contract.now) a
 abbrev pub refusal_in : Held → Asked → ℕ → Option Refusal
 refusal_in h a long = refusal_of h.policy.now h.memory.now long (view_of a.contract.now) a.query
 
--- what the user's cache at a place has for a query; memory that is to be written can't be held, so here it comes apart from its policy
+-- what the user's cache at a place has for a query; `Held` only reads memory, so here, where it is written too, it comes apart from its policy
 abbrev pub found_at : Policy → List ℕ → Asked → ℕ → Option Kept
 found_at p memory a at = found p memory (view_of a.contract.now) at a.query
 

@@ -7,7 +7,8 @@ use cache::Kept;
 use policy::CACHE;
 use query::Query;
 
-// That a cache lies within memory is asked of the callers: a struct with a ghost field could not hold the memory that `keep` writes.
+// Each function asks that the cache lies within memory: a struct that held this in a ghost field would have no fewer clauses,
+// since `keep` would have to ensure that its `&mut` is still the caller's.
 
 // What the cache at a place has for a query with these versions.
 pub(crate) fn look_up(memory: &[u64], at: usize, query: Query, versions: &[u64]) -> Option<Kept>

@@ -17,19 +17,23 @@ impl<'a> Held<'a> {
     }
 
     // The rows, and never more than there is room for.
+    // A compartment is cut out of memory here and below, and in `store`: a public method of `Place` would need a `requires` that its end is a number.
+    #[tactic(auto, using(crate::proofs::Parts::rows_in_part))]
     pub(crate) fn rows_at(&self, compartment: u64) -> &'a [u64]
         ensures { result.now ≡ part_at self.now.policy.now self.now.memory.now compartment }
     {
         match self.policy.place(compartment) {
             Some(Place { start, capacity }) => {
-                let count = self.memory[start + 1].min(capacity as u64) as usize;
-                &self.memory[start + 2..start + 2 + 2 * count]
+                let part = &self.memory[start..start + 2 + 2 * capacity];
+                let count = part[1].min(capacity as u64) as usize;
+                compartment::rows_of(part, count)
             }
             None => &[],
         }
     }
 
     // Where the version or the number of rows is out of bounds, if one is: the lower place.
+    // Not as the refusal in which it comes: of several places the lowest is wanted, and refusals have no order.
     pub(crate) fn fault_at(&self, compartment: u64) -> Option<usize>
         ensures { result ≡ fault_at self.now.policy.now self.now.memory.now compartment }
     {

@@ -10,6 +10,9 @@ use policy::{ArrayList, Contract};
 use query::LookedAt;
 
 impl<'a> Held<'a> {
+    // `versions` and `lend` stay two loops. One function of a closure was tried: it takes two `requires` and a word of its own for what
+    // the list holds, and each caller has to prove that the list is a map.
+
     // The version of each compartment that a contract lets its user see.
     pub(crate) fn versions(&self, contract: &Contract) -> ArrayList<u64, 16>
         ensures { result.items ≡ versions_in self.now.policy.now self.now.memory.now (view_of contract.now) }
@@ -45,7 +48,7 @@ impl<'a> Held<'a> {
     }
 }
 
-// The lower of two places, where there are two.
+// The lower of two places, where there are two. No `min` of two `Option`s passes over `None`.
 fn lower(a: Option<usize>, b: Option<usize>) -> Option<usize>
     ensures { result ≡ lower a b }
 {

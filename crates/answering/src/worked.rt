@@ -26,6 +26,7 @@ impl Held<'_> {
         if lent < needed {
             return Err(Refusal::ShortRow { length: lent });
         }
+        // A `map_or` with `Ok` and `Err` would say no more than this match.
         match self.lowest_fault(asked.contract.view()) {
             Some(place) => Err(Refusal::OutOfBounds { place }),
             None => Ok(()),
@@ -56,6 +57,7 @@ impl Held<'_> {
         match kept {
             Kept::Rows | Kept::Shared => self.again(asked, row),
             Kept::Total { rows, amount } => {
+                // What is kept are numbers of memory, of 64 bits each.
                 let rows = rows as usize;
                 Ok(unexamined(Answered::Total { rows, amount }))
             }

@@ -1,8 +1,9 @@
 -- What a user's cache holds after any trace: entries that were right when they were kept, none of them newer than now.
-use Rattle.std.proofs.Common.{◌≡◌, ℕ, suc, ◌+◌, ◌<◌, ◌≤◌, true, false, ◌&&◌, eqb, List, [], ◌∷◌, map, is_some, Some, sym, refl, ap, inl, inr, arith}
+use Rattle.std.proofs.Common.{◌≡◌, ℕ, suc, ◌<◌, ◌≤◌, true, false, ◌&&◌, eqb, List, [], ◌∷◌, map, is_some, Some, sum, sym, refl, ap, inl, inr, arith}
 use Rattle.std.specs.List.{AllByRecursion}
 use Rattle.std.proofs.ByRecursion.{All-weaker}
-use Rattle.std.proofs.lemmas.Bool.{cases_Bool, and_parts, and_from, and_right, eqb-true, eq-eqb, ne_eqb, or_cases, both_ways, cases_eq}
+use Rattle.std.proofs.lemmas.Bool.{cases_Bool, and_parts, and_from, and_right, eqb-true, eq-eqb, ne_eqb, or_cases, cases_eq}
+use Rattle.std.proofs.lemmas.List.Sums.{sum_by-cons}
 use Rattle.rows.specs.declared.Row.{Row}
 use Rattle.rows.specs.declared.KeyRange.{KeyRange}
 use Rattle.policy.specs.Rules.{has}
@@ -21,13 +22,13 @@ same_range_is r s h =
 
 pub same_query_is : (q r : Query) → same_query q r ≡ true → q ≡ r
 same_query_is (Rows r) (Rows s) h = ap Rows (same_range_is r s h)
-same_query_is (Rows r) (Total s) h = absurd (both_ways false refl h)
-same_query_is (Rows r) (Shared a b s) h = absurd (both_ways false refl h)
-same_query_is (Total r) (Rows s) h = absurd (both_ways false refl h)
+same_query_is (Rows r) (Total s) h = absurd cc
+same_query_is (Rows r) (Shared a b s) h = absurd cc
+same_query_is (Total r) (Rows s) h = absurd cc
 same_query_is (Total r) (Total s) h = ap Total (same_range_is r s h)
-same_query_is (Total r) (Shared a b s) h = absurd (both_ways false refl h)
-same_query_is (Shared c d r) (Rows s) h = absurd (both_ways false refl h)
-same_query_is (Shared c d r) (Total s) h = absurd (both_ways false refl h)
+same_query_is (Total r) (Shared a b s) h = absurd cc
+same_query_is (Shared c d r) (Rows s) h = absurd cc
+same_query_is (Shared c d r) (Total s) h = absurd cc
 same_query_is (Shared c d r) (Shared a b s) h =
     let e = and_parts (eqb c a) (eqb d b && same_range r s) h in
     let f = and_parts (eqb d b) (same_range r s) e.1 in
@@ -46,8 +47,8 @@ same_query_refl (Shared a b r) = and_from (eqb a a) (eqb b b && same_range r r) 
 
 same_versions_is : (ms ns : List ℕ) → same_versions ms ns ≡ true → ms ≡ ns
 same_versions_is [] [] h = refl
-same_versions_is [] (n ∷ ns) h = absurd (both_ways false refl h)
-same_versions_is (m ∷ ms) [] h = absurd (both_ways false refl h)
+same_versions_is [] (n ∷ ns) h = absurd cc
+same_versions_is (m ∷ ms) [] h = absurd cc
 same_versions_is (m ∷ ms) (n ∷ ns) h =
     let e = and_parts (eqb m n) (same_versions ms ns) h in
     let f = eqb-true m n e.0 in
@@ -59,49 +60,45 @@ same_versions_refl [] = refl
 same_versions_refl (n ∷ ns) = and_from (eqb n n) (same_versions ns ns) (eq-eqb n n refl) (same_versions_refl ns)
 
 -- versions only grow: their sum tells old ones from new ones
-abbrev pub sum_of : List ℕ → ℕ
-sum_of [] = 0
-sum_of (n ∷ ns) = n + sum_of ns
-
-older_differ : (ms ns : List ℕ) → sum_of ms < sum_of ns → same_versions ns ms ≡ false
+older_differ : (ms ns : List ℕ) → sum ms < sum ns → same_versions ns ms ≡ false
 older_differ ms ns h = elim (cases_Bool (same_versions ns ms)) [
-  | inl e ↦ let f = ap sum_of (same_versions_is ns ms e) in absurd (omega arith)
+  | inl e ↦ let f = ap sum (same_versions_is ns ms e) in absurd (omega arith)
   | inr e ↦ e
 ]
 
 abbrev raised : (ℕ → ℕ) → ℕ → ℕ → ℕ
 raised f c = with_at f c (suc (f c))
 
-pub raised_no_less : (f : ℕ → ℕ) (c : ℕ) (cs : List ℕ) → sum_of (map f cs) ≤ sum_of (map (raised f c) cs)
+pub raised_no_less : (f : ℕ → ℕ) (c : ℕ) (cs : List ℕ) → sum (map f cs) ≤ sum (map (raised f c) cs)
 raised_no_less f c [] = omega arith
-raised_no_less f c (d ∷ ds) = let i = raised_no_less f c ds in elim (cases_eq c d) [
+raised_no_less f c (d ∷ ds) = let i = raised_no_less f c ds in rw (sum_by-cons (λ n. n) (f d) (map f ds), sum_by-cons (λ n. n) (raised f c d) (map (raised f c) ds)) (elim (cases_eq c d) [
   | inl e ↦ rw (eq-eqb c d e) (let g : f d ≡ f c = ap f (sym e) in omega arith)
   | inr e ↦ rw (ne_eqb c d e) (omega arith)
-]
+])
 
-pub raised_more : (f : ℕ → ℕ) (c : ℕ) (cs : List ℕ) → has cs c ≡ true → sum_of (map f cs) < sum_of (map (raised f c) cs)
-raised_more f c [] h = absurd (both_ways false refl h)
-raised_more f c (d ∷ ds) h = elim (cases_eq c d) [
+pub raised_more : (f : ℕ → ℕ) (c : ℕ) (cs : List ℕ) → has cs c ≡ true → sum (map f cs) < sum (map (raised f c) cs)
+raised_more f c [] h = absurd cc
+raised_more f c (d ∷ ds) h = rw (sum_by-cons (λ n. n) (f d) (map f ds), sum_by-cons (λ n. n) (raised f c d) (map (raised f c) ds)) (elim (cases_eq c d) [
   | inl e ↦ let i = raised_no_less f c ds in rw (eq-eqb c d e) (let g : f d ≡ f c = ap f (sym e) in omega arith)
   | inr e ↦ elim (or_cases (eqb d c) (has ds c) h) [
     | inl k ↦ absurd (e (sym (eqb-true d c k)))
     | inr k ↦ let i = raised_more f c ds k in rw (ne_eqb c d e) (omega arith)
   ]
-]
+])
 
 -- an entry of a cache: not newer than now, and right if nothing that is seen was changed since
 abbrev pub Fits : List ℕ → (ℕ → List Row) → List ℕ → Entry → Type 0
-Fits view rows now e = (sum_of e.versions ≤ sum_of now) × (e.versions ≡ now → recall e.kept (answer view rows e.query) ≡ answer view rows e.query)
+Fits view rows now e = (sum e.versions ≤ sum now) × (e.versions ≡ now → recall e.kept (answer view rows e.query) ≡ answer view rows e.query)
 
 abbrev pub AllFit : List ℕ → (ℕ → List Row) → List ℕ → List Entry → Type 0
 AllFit view rows now = AllByRecursion (Fits view rows now)
 
 -- after a change of what is seen no entry is of now
-pub fit_older : (view : List ℕ) (rows other : ℕ → List Row) (now later : List ℕ) (es : List Entry) → sum_of now < sum_of later →
+pub fit_older : (view : List ℕ) (rows other : ℕ → List Row) (now later : List ℕ) (es : List Entry) → sum now < sum later →
     AllFit view rows now es → AllFit view other later es
 fit_older view rows other now later es l h =
     All-weaker (Fits view rows now) (Fits view other later)
-    (λ (e : Entry) (f : Fits view rows now e). (omega (arith, f.0), λ (k : e.versions ≡ later). absurd (omega (arith, f.0, ap sum_of k)))) es h
+    (λ (e : Entry) (f : Fits view rows now e). (omega (arith, f.0), λ (k : e.versions ≡ later). absurd (omega (arith, f.0, ap sum k)))) es h
 
 -- a change of what is not seen leaves all as it is
 pub fit_same : (view : List ℕ) (rows other : ℕ → List Row) (now : List ℕ) (es : List Entry) → SameOn view rows other →
@@ -121,7 +118,7 @@ recall_keep not_seen = refl
 -- a kept answer that is found is right
 pub found_right : (q : Query) (view : List ℕ) (rows : ℕ → List Row) (now : List ℕ) (es : List Entry) (k : Kept) → AllFit view rows now es →
     find q now es ≡ Some k → recall k (answer view rows q) ≡ answer view rows q
-found_right q view rows now [] k h e = let z : ◌≡◌ {A = ℕ} 0 1 = cc in absurd (omega arith)
+found_right q view rows now [] k h e = absurd cc
 found_right q view rows now (x ∷ es) k h e = elim (cases_Bool (same_query q x.query && same_versions now x.versions)) [
   | inl t ↦
       let parts = and_parts (same_query q x.query) (same_versions now x.versions) t in
@@ -135,7 +132,7 @@ found_right q view rows now (x ∷ es) k h e = elim (cases_Bool (same_query q x.
 ]
 
 -- where all entries are older nothing is found
-pub none_found : (q : Query) (view : List ℕ) (rows : ℕ → List Row) (now later : List ℕ) (es : List Entry) → sum_of now < sum_of later → AllFit view rows now es → is_some (find q later es) ≡ false
+pub none_found : (q : Query) (view : List ℕ) (rows : ℕ → List Row) (now later : List ℕ) (es : List Entry) → sum now < sum later → AllFit view rows now es → is_some (find q later es) ≡ false
 none_found q view rows now later [] l h = refl
 none_found q view rows now later (x ∷ es) l h =
     let d = older_differ x.versions later (omega (arith, h.0.0)) in

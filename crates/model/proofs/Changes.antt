@@ -93,7 +93,7 @@ remembered_own p s u q None = record {
   cache = λ v e. rw (ne_eqb u v e);
   query_rows = λ a c. refl;
   query_version = λ a c. refl;
-  change_cache = λ a. absurd (both_ways true a refl);
+  change_cache = λ a. absurd cc;
 }
 
 next_own : (p : Rules) (s : State) (r : Request) → OnlyOwn p r s (next p s r)
@@ -120,14 +120,14 @@ record Agree (s t : State) (c : ℕ) : Type 0 where
 plain_told : (p : Rules) (limit : ℕ) (s t : State) (r : Request) (lent : ℕ) → plain r ≡ true → Agree s t (p.writes (who r)) → respond p limit s r lent ≡ respond p limit t r lent
 plain_told p limit s t (Write u row) lent h a = rw (a.rows, a.version)
 plain_told p limit s t (Delete u key) lent h a = rw (a.rows, a.version)
-plain_told p limit s t (Copy u c range) lent h a = absurd (both_ways false refl h)
-plain_told p limit s t (Ask u q) lent h a = absurd (both_ways false refl h)
+plain_told p limit s t (Copy u c range) lent h a = absurd cc
+plain_told p limit s t (Ask u q) lent h a = absurd cc
 
 plain_next : (p : Rules) (s t : State) (r : Request) → plain r ≡ true → Agree s t (p.writes (who r)) → Agree (next p s r) (next p t r) (p.writes (who r))
 plain_next p s t (Write u row) h a = record { rows = rw a.rows; version = rw a.version }
 plain_next p s t (Delete u key) h a = record { rows = rw a.rows; version = rw a.version }
-plain_next p s t (Copy u c range) h a = absurd (both_ways false refl h)
-plain_next p s t (Ask u q) h a = absurd (both_ways false refl h)
+plain_next p s t (Copy u c range) h a = absurd cc
+plain_next p s t (Ask u q) h a = absurd cc
 
 plain_step : (p : Rules) (limit : ℕ) (s t : State) (call : Call) → plain call.request ≡ true → Agree s t (p.writes (who call.request)) →
     Agree (step p limit s call) (step p limit t call) (p.writes (who call.request))
@@ -142,7 +142,7 @@ plain_asks : (r : Request) → plain r ≡ true → asks r ≡ false
 plain_asks (Write u row) h = refl
 plain_asks (Delete u key) h = refl
 plain_asks (Copy u c range) h = refl
-plain_asks (Ask u q) h = absurd (both_ways false refl h)
+plain_asks (Ask u q) h = absurd cc
 
 then : {s t u : State} {c : ℕ} → Agree s t c → Agree t u c → Agree s u c
 then a b = record { rows = a.rows ∙ b.rows; version = a.version ∙ b.version }

@@ -1,3 +1,4 @@
+-- Lemmas on the model, from noninterference to what each request tells and changes.
 pub mod Unwinding
 pub mod Alike
 pub mod Interference

@@ -1,6 +1,6 @@
 -- Rules that are the same for users and compartments that are there tell the same and do the same.
-use Rattle.std.proofs.Common.{◌≡◌, ℕ, suc, ◌<◌, Bool, true, false, cond, not, ◌&&◌, eqb, List, [], ◌∷◌, length, get_or, Some, None, Option, sym, refl, ap, ◌∙◌, inl, inr, suc-le-suc, zero-le}
-use Rattle.std.proofs.lemmas.Bool.{cases_Bool, both_ways, or_cases, and_parts, eqb-true, ltb-true}
+use Rattle.std.proofs.Common.{◌≡◌, ℕ, suc, ◌<◌, Bool, true, cond, not, ◌&&◌, eqb, List, [], ◌∷◌, length, get_or, Some, None, Option, sym, refl, ap, ◌∙◌, inl, inr, suc-le-suc, zero-le}
+use Rattle.std.proofs.lemmas.Bool.{cases_Bool, or_cases, and_parts, eqb-true, ltb-true}
 use Rattle.policy.specs.Laws.{Same, Valid}
 use Rattle.policy.specs.Rules.{Rules, Sound, has, sees, flows}
 use Rattle.policy.proofs.Alike.{may_copy_alike}
@@ -15,7 +15,7 @@ use Rattle.model.proofs.Interference.{absent, noninterference}
 
 -- what stands in a list whose numbers are all below n is below n
 all_below : (n c : ℕ) (xs : List ℕ) → ((i : ℕ) → i < length xs → get_or xs i 0 < n) → has xs c ≡ true → c < n
-all_below n c [] each h = absurd (both_ways false refl h)
+all_below n c [] each h = absurd cc
 all_below n c (x ∷ xs) each h = elim (or_cases (eqb x c) (has xs c) h) [
   | inl e ↦ rw (sym (eqb-true x c e)) (each 0 (suc-le-suc zero-le))
   | inr e ↦ all_below n c xs (λ i l. each (suc i) (suc-le-suc l)) e

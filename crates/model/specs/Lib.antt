@@ -1,3 +1,4 @@
+-- What the contracts of this crate cite.
 pub mod Model
 pub mod Events
 pub mod Promises

@@ -81,19 +81,16 @@ copy_told p memory u source range lent r =
       | inr e ↦ rw e refl
     ])
 
-done_not_refused : (x : Response) (why : Refusal) → x ≡ done → x ≡ refused why → ⊥
-done_not_refused x why d e = let z : ◌≡◌ {A = ℕ} 0 1 = cc in omega arith
-
 -- whoever changed something is there
 done_there : (p : Policy) (s : State) (r : Request) (lent : ℕ) → response (rules_of p) limit s (lend r lent) ≡ done → there (rules_of p) (who r) ≡ true
 done_there p s r lent d = elim (cases_Bool (there (rules_of p) (who r))) [
   | inl e ↦ e
-  | inr e ↦ absurd (done_not_refused _ (absence r) d (absent (rules_of p) limit s r lent e))
+  | inr e ↦ let a = absent (rules_of p) limit s r lent e in absurd cc
 ]
 
 done_passed : (b : Bool) (x : Response) (why : Refusal) → cond b x (refused why) ≡ done → b ≡ true
 done_passed true x why d = refl
-done_passed false x why d = absurd (done_not_refused _ why d refl)
+done_passed false x why d = absurd cc
 
 -- what the model says of one change, said of memory
 module _ (p : Policy) (s t : State) (memory after : List ℕ) (h : Holds p s memory) (k : Holds p t after) where

@@ -1,5 +1,5 @@
 -- Changes in two places that lie apart may be made in either order.
-use Rattle.std.proofs.Common.{◌≡◌, ℕ, ◌+◌, ◌-◌, ◌≤◌, true, false, ◌⊎◌, List, [], ◌∷◌, ◌++◌, length, take, drop, sym, refl, ap, ◌∙◌, inl, inr, arith}
+use Rattle.std.proofs.Common.{◌≡◌, ℕ, ◌+◌, ◌-◌, ◌≤◌, true, ◌⊎◌, List, [], ◌∷◌, ◌++◌, length, take, drop, sym, refl, ap, ◌∙◌, inl, inr, arith}
 use borrow.Rule.Slice.PartMut.{put_mid}
 use Rattle.compartment.specs.Parts.{limit, write_after, delete_after}
 use Rattle.model.specs.Effects.{plain}
@@ -12,7 +12,7 @@ use Rattle.request.specs.declared.Request.{Request}
 use Rattle.request.specs.declared.Request.TheVariants.{Write, Delete, Copy, Query as Ask}
 use Rattle.std.proofs.lemmas.List.{take-append-drop, drop-append-le, drop-take, length-take-le}
 use Rattle.std.proofs.lemmas.Slice.{take-put_mid_below, take-put_mid, drop-put_mid}
-use Rattle.std.proofs.lemmas.Bool.{cases_Bool, both_ways}
+use Rattle.std.proofs.lemmas.Bool.{cases_Bool}
 use Rattle.store.specs.Memory.{end, part, with_part}
 use Rattle.store.specs.Simulation.{Holds}
 use Rattle.store.proofs.Changing.{apart, fits}
@@ -84,8 +84,8 @@ module _ (p : Policy) (s : State) (memory : List ℕ) (h : Holds p s memory) (r 
           leaves p memory r lent ≡ with_part (place_in p ((rules_of p).writes (who r))) (effect r (part (place_in p ((rules_of p).writes (who r))) memory)) memory
       by (Write u row) e t = rw (long p s memory h, t) refl
       by (Delete u key) e t = rw (long p s memory h, t) refl
-      by (Copy u c range) e t = absurd (both_ways false refl e)
-      by (Ask u query) e t = absurd (both_ways false refl e)
+      by (Copy u c range) e t = absurd cc
+      by (Ask u query) e t = absurd cc
 
   effect_wide : length (effect r (part place memory)) ≡ end place - place.start
   effect_wide = by r simple b t
@@ -94,8 +94,8 @@ module _ (p : Policy) (s : State) (memory : List ℕ) (h : Holds p s memory) (r 
           length (effect r (part (place_in p ((rules_of p).writes (who r))) memory)) ≡ end (place_in p ((rules_of p).writes (who r))) - (place_in p ((rules_of p).writes (who r))).start
       by (Write u row) e b t = written_wide p s memory h ((rules_of p).writes u) (own_there p s memory h u t) row b
       by (Delete u key) e b t = deleted_wide p s memory h ((rules_of p).writes u) (own_there p s memory h u t) key
-      by (Copy u c range) e b t = absurd (both_ways false refl e)
-      by (Ask u query) e b t = absurd (both_ways false refl e)
+      by (Copy u c range) e b t = absurd cc
+      by (Ask u query) e b t = absurd cc
 
 -- one request after another, by the parts before both
 module _ (p : Policy) (s : State) (memory : List ℕ) (h : Holds p s memory) (x y : Made) (bx : Possible x) (by : Possible y)

@@ -24,7 +24,7 @@ use Rattle.rows.specs.declared.KeyRange.{KeyRange}
 use Rattle.rows.specs.declared.Row.{Row}
 use Rattle.std.proofs.lemmas.List.{drop-drop, drop_at, length-append, length-replicate, length-drop, length-set}
 use Rattle.std.proofs.lemmas.Slice.{take-put_mid_below, drop-put_mid}
-use Rattle.std.proofs.lemmas.Bool.{cases_Bool, both_ways, ltb-true, lt-ltb, le-ltb, cond-true, eqb-false}
+use Rattle.std.proofs.lemmas.Bool.{cases_Bool, ltb-true, lt-ltb, le-ltb, cond-true, eqb-false}
 use Rattle.std.specs.List.{AllByRecursion}
 use Rattle.store.specs.Calls.{opened, wrote, deleted, copied, itself_memory, between_memory}
 use Rattle.store.specs.Memory.{end, part}
@@ -195,12 +195,12 @@ module _ (p : Policy) (s : State) (memory : List ℕ) (h : Holds p s memory) whe
     | inl e ↦ own_part u _ t (copy_replaced u t c range e)
     | inr e ↦ unchanged _ _ memory _ (rw (long, e) refl)
   ]
-  change_in_place (Ask u query) lent b t a = absurd (both_ways true a refl)
+  change_in_place (Ask u query) lent b t a = absurd cc
 
   ask_in_place : (r : Request) (lent : List ℕ) → there (rules_of p) (who r) ≡ true → asks r ≡ true → ButFor (cache_start p (who r)) 192 memory (leaves p memory r lent)
-  ask_in_place (Write u row) lent t a = absurd (both_ways false refl a)
-  ask_in_place (Delete u key) lent t a = absurd (both_ways false refl a)
-  ask_in_place (Copy u c range) lent t a = absurd (both_ways false refl a)
+  ask_in_place (Write u row) lent t a = absurd cc
+  ask_in_place (Delete u key) lent t a = absurd cc
+  ask_in_place (Copy u c range) lent t a = absurd cc
   ask_in_place (Ask u query) lent t a =
       let l = ltb-true u p.users t in
       let within : cache_start p u + 192 ≤ length memory = omega (arith, h.long) in

@@ -1,5 +1,5 @@
 -- A refusal leaves memory as it was, whatever it holds.
-use Rattle.std.proofs.Common.{◌≡◌, ℕ, ◌+◌, Bool, true, false, cond, eqb, List, length, get_or, is_ok, Some, None, Ok, Err, Option, Result, refl, arith}
+use Rattle.std.proofs.Common.{◌≡◌, ℕ, ◌+◌, Bool, true, false, cond, eqb, List, length, get_or, is_ok, Some, None, Ok, Err, Option, Result, refl}
 use Rattle.answering.specs.Asked.{asked_told, asked_row}
 use Rattle.answering.proofs.Refused.{refusals_leave}
 use Rattle.compartment.specs.Parts.{write_told, write_after, delete_told, delete_after}
@@ -22,11 +22,11 @@ use Rattle.promises.specs.Effects.{RefusalsLeave}
 use Rattle.promises.specs.Traces.{as_response, as_answer}
 
 not_done : (x : Result (Unit {0}) Refusal) (why : Refusal) → as_response x ≡ refused why → is_ok x ≡ false
-not_done (Ok x) why e = let z : ◌≡◌ {A = ℕ} 0 1 = cc in absurd (omega arith)
+not_done (Ok x) why e = absurd cc
 not_done (Err x) why e = refl
 
 not_answered : (x : Result Outcome Refusal) (row : List ℕ) (why : Refusal) → as_answer x row ≡ refused why → x ≡ Err why
-not_answered (Ok x) row why e = let z : ◌≡◌ {A = ℕ} 0 1 = cc in absurd (omega arith)
+not_answered (Ok x) row why e = absurd cc
 not_answered (Err x) row why e = cc
 
 -- a change of one part

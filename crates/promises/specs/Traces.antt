@@ -38,7 +38,7 @@ abbrev pub as_answer : Result Outcome Refusal → List ℕ → Response
 as_answer (Ok told) row = answered (read_answer told.answered row) told.examined
 as_answer (Err e) row = refused e
 
--- what a request tells
+-- what a request tells: said case by case here and in `leaves`, to be read without the code's `serve`; `AsServed` says that they are the same
 abbrev pub tells : Policy → List ℕ → Request → List ℕ → Response
 tells p memory (Write user row) lent = as_response (wrote_told p user row memory)
 tells p memory (Delete user key) lent = as_response (deleted_told p user key memory)

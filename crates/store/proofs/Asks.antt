@@ -72,7 +72,7 @@ module _ (p : Policy) (s : State) (memory : List ℕ) (h : Holds p s memory) (us
   cache_is at e =
       elim (cases_Bool (ltb user p.users)) [
         | inl t ↦ (ltb-true user p.users t, let f = rw t at e in cc)
-        | inr t ↦ let f = rw t at e in let z : ◌≡◌ {A = ℕ} 0 1 = cc in absurd (omega arith)
+        | inr t ↦ let f = rw t at e in absurd cc
       ]
 
   pub seen : tie.Holds p s user memory

@@ -15,6 +15,7 @@ use Rattle.rows.specs.declared.Row.{Row}
 use Rattle.store.specs.declared.copying.counts.Counts.{Counts}
 use Rattle.store.specs.Memory.{part, with_part}
 pub use Rattle.policy.specs.Access.{length_told as opened_told}
+pub use Rattle.request.specs.Decoded.{then as both}
 
 -- memory is shorter than the policy asks for; `opened_told` refuses it
 abbrev pub short : Policy → List ℕ → Bool
@@ -55,10 +56,6 @@ abbrev pub rows_from : Place → ℕ → Part
 rows_from q count = record { start = q.start + 2; count = count }
 
 -- the numbers of rows of two compartments, or the lowest number of theirs that is out of bounds
-abbrev pub both : {A B : Type 0} → Result A Refusal → (A → Result B Refusal) → Result B Refusal
-both (Err e) next = Err e
-both (Ok x) next = next x
-
 abbrev pub counts_told : Place → Place → List ℕ → Result Counts Refusal
 counts_told from into memory =
     cond (nat_lt from.start into.start)

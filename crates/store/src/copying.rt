@@ -12,57 +12,66 @@ mod counts;
 
 pub(crate) use counts::Counts;
 
-// That a place lies within memory is asked of the callers: memory is lent to be written, and no struct with a `&mut` has a ghost field.
-
-// How many rows both compartments have, or the lowest number of theirs that is out of bounds.
-pub(crate) fn check_both(memory: &[u64], from: Place, into: Place) -> Result<Counts, Refusal>
-    requires from { end from ≤ length memory.now }
-    requires into { end into ≤ length memory.now }
-    ensures { result ≡ counts_told from into memory.now }
-{
-    let source = compartment::check(&memory[room_of(from)], from.start);
-    let destination = compartment::check(&memory[room_of(into)], into.start);
-    match (source, destination) {
-        (Ok(source), Ok(destination)) => Ok(Counts {
-            source,
-            destination,
-        }),
-        (Ok(_), Err(refusal)) | (Err(refusal), Ok(_)) => Err(refusal),
-        (Err(a), Err(b)) => Err(if from.start < into.start { a } else { b }),
-    }
+// Two compartments of memory: rows are copied from one into the other.
+#[derive(Drop)]
+pub(crate) struct Between<'a> {
+    pub(crate) memory: &'a mut [u64],
+    pub(crate) from: Place,
+    pub(crate) written: Written,
+    ghost from_within: { end from ≤ length memory.now },
+    ghost written_within: { end written.place ≤ length memory.now },
 }
 
-// Copies the rows of a range: all of them, or none.
-pub(crate) fn between(
-    memory: &mut [u64],
-    from: Place,
-    written: Written,
-    range: KeyRange,
-) -> Result<(), Refusal>
-    requires from { end from ≤ length memory.old }
-    requires into { end written.place ≤ length memory.old }
-    ensures told { result ≡ between_told from written range memory.old }
-    ensures after { memory.new ≡ between_memory from written range memory.old }
-{
-    let counts = check_both(memory, from, written.place)?;
-    // Each by itself: a function of a place would ask in a `requires` that two more than its start is a number.
-    let source = Part {
-        start: from.start + 2,
-        count: counts.source,
-    };
-    let destination = Part {
-        start: written.place.start + 2,
-        count: counts.destination,
-    };
-    let place = memory.len();
-    let copying = merge::plan(memory, source, destination, range).ok_or(Refusal::OutOfBounds {
-        place,
-    })?;
-    let rows = counts.destination - copying.destination.count + copying.total;
-    compartment::raise(&mut memory[room_of(written.place)], written, rows)?;
-    // It is always done: the plan is of two compartments apart, leaves no fewer rows than before, and there is room for them.
-    merge::merge_into(memory, copying);
-    Ok(())
+impl Between<'_> {
+    // How many rows both compartments have, or the lowest number of theirs that is out of bounds.
+    fn check(&self) -> Result<Counts, Refusal>
+        ensures { result ≡ counts_told self.now.from self.now.written.place self.now.memory.now }
+    {
+        let from = self.from;
+        let into = self.written.place;
+        let source = compartment::check(&self.memory[room_of(from)], from.start);
+        let destination = compartment::check(&self.memory[room_of(into)], into.start);
+        match (source, destination) {
+            (Ok(source), Ok(destination)) => Ok(Counts {
+                source,
+                destination,
+            }),
+            (Ok(_), Err(refusal)) | (Err(refusal), Ok(_)) => Err(refusal),
+            (Err(a), Err(b)) => Err(if from.start < into.start { a } else { b }),
+        }
+    }
+
+    // Copies the rows of a range: all of them, or none.
+    // Not by `self`: where that is taken apart and written on some paths only, the checker makes no proof yet.
+    pub(crate) fn copy(&mut self, range: KeyRange) -> Result<(), Refusal>
+        ensures same_reference { self.new.memory.ghost_name ≡ self.old.memory.ghost_name }
+        ensures told { result ≡ between_told self.old.from self.old.written range self.old.memory.now }
+        ensures after { self.new.memory.now ≡ between_memory self.old.from self.old.written range self.old.memory.now }
+    {
+        let counts = self.check()?;
+        // By names of their own: as fields of `self` they were tried, and four goals stayed open.
+        let from = self.from;
+        let written = self.written;
+        let memory = &mut *self.memory;
+        // Each by itself: a function of a place would ask in a `requires` that two more than its start is a number.
+        let source = Part {
+            start: from.start + 2,
+            count: counts.source,
+        };
+        let destination = Part {
+            start: written.place.start + 2,
+            count: counts.destination,
+        };
+        let place = memory.len();
+        let copying = merge::plan(memory, source, destination, range).ok_or(Refusal::OutOfBounds {
+            place,
+        })?;
+        let rows = counts.destination - copying.destination.count + copying.total;
+        compartment::raise(&mut memory[room_of(written.place)], written, rows)?;
+        // It is always done: the plan is of two compartments apart, leaves no fewer rows than before, and there is room for them.
+        merge::merge_into(memory, copying);
+        Ok(())
+    }
 }
 
 // A copy of a compartment into itself: one change, and no row of it.

@@ -15,13 +15,14 @@ mod part;
 mod reply;
 
 pub use answering::ask;
+use copying::Between;
 use part::room_of;
 use policy::{Policy, Refusal, Written};
 pub use reply::Reply;
 use request::Request;
 use rows::{KeyRange, Row};
 
-// Policy and memory come apart: a struct with memory as a `&mut` has no ghost field to say that it is long enough.
+// Policy and memory come apart: each call itself refuses memory that is too short, so no struct with a ghost field stands for both.
 
 // Memory of the length that the policy asks for becomes empty; what lies behind is not touched.
 pub fn open(policy: &Policy, memory: &mut [u64]) -> Result<(), Refusal>
@@ -34,6 +35,7 @@ pub fn open(policy: &Policy, memory: &mut [u64]) -> Result<(), Refusal>
 }
 
 // The row comes into the compartment in which the user writes.
+// This and `delete` differ in the call that they end in: one function that took it as a closure would say no more.
 pub fn write(policy: &Policy, memory: &mut [u64], user: usize, row: Row) -> Result<(), Refusal>
     ensures told { result ≡ wrote_told policy.now user row memory.old }
     ensures after { memory.new ≡ wrote policy.now user row memory.old }
@@ -81,7 +83,12 @@ pub fn copy(
     if written.compartment == compartment {
         return copying::into_itself(memory, written);
     }
-    copying::between(memory, from, written, range)
+    Between {
+        memory,
+        from,
+        written,
+    }
+    .copy(range)
 }
 
 // Any request.

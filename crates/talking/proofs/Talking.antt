@@ -18,9 +18,9 @@ together_sound user h = refl
 
 -- if what is told differs, noninterference fails
 shown : {S : Type 0} {m : Rules → Machine S} {p : Rules} {v : ℕ} {calls : List Call} {among alone : List Response} → Sound p →
-    told (m p) v calls ≡ among → told (m p) v (purge p v calls) ≡ alone → (alone ≡ among → ◌≡◌ {A = ℕ} 1 0) → Talks m p v calls among alone
+    told (m p) v calls ≡ among → told (m p) v (purge p v calls) ≡ alone → (alone ≡ among → ⊥) → Talks m p v calls among alone
 shown {S} {m} {p} {v} {calls} {among} {alone} sound e f d =
-    let differ : told (m p) v (purge p v calls) ≡ told (m p) v calls → ⊥ = λ h. let z : ◌≡◌ {A = ℕ} 1 0 = d cc in omega arith in
+    let differ : told (m p) v (purge p v calls) ≡ told (m p) v calls → ⊥ = λ h. d cc in
     record { sound = sound; whole = e; purged = f; differ = differ; fails = λ n. differ (n p v calls sound) }
 
 pub row_numbers : RowNumbersTalk
@@ -53,6 +53,5 @@ half_a_copy = record {
   before = refl;
   after = refl;
   fails = λ h.
-      let e : ◌≡◌ {A = List Row} (row 5 ∷ row 6 ∷ []) [] = ap (λ s. s.rows 2) (h three filled copying (NoRoom 2) refl) in
-      let z : ◌≡◌ {A = ℕ} 1 0 = cc in omega arith;
+      let e : ◌≡◌ {A = List Row} (row 5 ∷ row 6 ∷ []) [] = ap (λ s. s.rows 2) (h three filled copying (NoRoom 2) refl) in cc;
 }

@@ -1,4 +1,5 @@
-// Stores that talk: of each it is proved that noninterference fails. Every function carries a theorem, and does nothing else.
+// Stores that are the model but for one thing: each talks, or changes something where it refuses; and the model, which does neither.
+// Every function carries a theorem, and does nothing else.
 #![tactic(auto)]
 
 ghost use Rattle.talking.specs.Frame.{Fits};

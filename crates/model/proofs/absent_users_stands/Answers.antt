@@ -1,3 +1,4 @@
+-- The theorem that the contract names.
 use Rattle.model.proofs.Changes.{absent_users}
 use Rattle.model.proofs.absent_users_stands.Goals as goal
 

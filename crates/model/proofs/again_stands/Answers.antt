@@ -1,3 +1,4 @@
+-- The theorem that the contract names.
 use Rattle.model.proofs.Answering.{again}
 use Rattle.model.proofs.again_stands.Goals as goal
 

@@ -1,3 +1,4 @@
+-- The theorem that the contract names.
 use Rattle.model.proofs.Orderly.{caches}
 use Rattle.model.proofs.caches_stands.Goals as goal
 

@@ -1,3 +1,4 @@
+-- The theorem that the contract names.
 use Rattle.model.proofs.Changes.{copy_effect}
 use Rattle.model.proofs.copy_effect_stands.Goals as goal
 

@@ -1,3 +1,4 @@
+-- The theorem that the contract names.
 use Rattle.model.proofs.Changes.{copy_told}
 use Rattle.model.proofs.copy_told_stands.Goals as goal
 

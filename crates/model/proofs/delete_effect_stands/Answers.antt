@@ -1,3 +1,4 @@
+-- The theorem that the contract names.
 use Rattle.model.proofs.Changes.{delete_effect}
 use Rattle.model.proofs.delete_effect_stands.Goals as goal
 

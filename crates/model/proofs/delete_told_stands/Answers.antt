@@ -1,3 +1,4 @@
+-- The theorem that the contract names.
 use Rattle.model.proofs.Changes.{delete_told}
 use Rattle.model.proofs.delete_told_stands.Goals as goal
 

@@ -1,3 +1,4 @@
+-- The theorem that the contract names.
 use Rattle.model.proofs.Changes.{either_order}
 use Rattle.model.proofs.either_order_stands.Goals as goal
 

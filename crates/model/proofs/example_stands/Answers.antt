@@ -1,3 +1,4 @@
+-- The theorem that the contract names.
 use Rattle.model.proofs.Example.{worked}
 use Rattle.model.proofs.example_stands.Goals as goal
 

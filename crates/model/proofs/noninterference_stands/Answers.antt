@@ -1,3 +1,4 @@
+-- The theorem that the contract names.
 use Rattle.model.proofs.Interference.{noninterference}
 use Rattle.model.proofs.noninterference_stands.Goals as goal
 

@@ -1,3 +1,4 @@
+-- The theorem that the contract names.
 use Rattle.model.proofs.Changes.{only_writers}
 use Rattle.model.proofs.only_writers_stands.Goals as goal
 

@@ -1,3 +1,4 @@
+-- The theorem that the contract names.
 use Rattle.model.proofs.Orderly.{ordered}
 use Rattle.model.proofs.order_stands.Goals as goal
 

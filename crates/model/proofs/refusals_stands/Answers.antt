@@ -1,3 +1,4 @@
+-- The theorem that the contract names.
 use Rattle.model.proofs.Changes.{refusals_change_nothing}
 use Rattle.model.proofs.refusals_stands.Goals as goal
 

@@ -1,3 +1,4 @@
+-- The theorem that the contract names.
 use Rattle.model.proofs.Answering.{right_answers}
 use Rattle.model.proofs.right_answers_stands.Goals as goal
 

@@ -1,3 +1,4 @@
+-- The theorem that the contract names.
 use Rattle.model.proofs.Sameness.{rules_alike}
 use Rattle.model.proofs.rules_alike_stands.Goals as goal
 

@@ -1,3 +1,4 @@
+-- The theorem that the contract names.
 use Rattle.model.proofs.Answering.{short_rows}
 use Rattle.model.proofs.short_rows_stands.Goals as goal
 

@@ -1,3 +1,4 @@
+-- The theorem that the contract names.
 use Rattle.model.proofs.Example.{soundness_needed}
 use Rattle.model.proofs.soundness_needed_stands.Goals as goal
 

@@ -1,3 +1,4 @@
+-- The theorem that the contract names.
 use Rattle.model.proofs.Interference.{two_traces}
 use Rattle.model.proofs.two_traces_stands.Goals as goal
 

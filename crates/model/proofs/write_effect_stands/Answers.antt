@@ -1,3 +1,4 @@
+-- The theorem that the contract names.
 use Rattle.model.proofs.Changes.{write_effect}
 use Rattle.model.proofs.write_effect_stands.Goals as goal
 

@@ -1,3 +1,4 @@
+-- The theorem that the contract names.
 use Rattle.model.proofs.Changes.{write_told}
 use Rattle.model.proofs.write_told_stands.Goals as goal
 

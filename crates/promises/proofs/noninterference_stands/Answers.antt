@@ -1,3 +1,4 @@
+-- The theorems that the contract names.
 use Rattle.promises.proofs.Proved.{noninterference, noninterference_with_rows}
 use Rattle.promises.proofs.noninterference_stands.Goals as goal
 

@@ -1,3 +1,4 @@
+-- The theorems that the contract names.
 use Rattle.promises.proofs.Proved.{two_traces, two_traces_with_rows}
 use Rattle.promises.proofs.two_traces_stands.Goals as goal
 

@@ -1,3 +1,4 @@
+-- The theorem that the contract names.
 use Rattle.talking.proofs.Talking.{allowed_if_empty}
 use Rattle.talking.proofs.allowed_if_empty_stands.Goals as goal
 

@@ -1,3 +1,4 @@
+-- The theorem that the contract names.
 use Rattle.talking.proofs.Fitting.{fits}
 use Rattle.talking.proofs.frame_stands.Goals as goal
 

@@ -1,3 +1,4 @@
+-- The theorem that the contract names.
 use Rattle.talking.proofs.Talking.{half_a_copy}
 use Rattle.talking.proofs.half_a_copy_stands.Goals as goal
 

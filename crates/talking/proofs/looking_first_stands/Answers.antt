@@ -1,3 +1,4 @@
+-- The theorem that the contract names.
 use Rattle.talking.proofs.Talking.{looking_first}
 use Rattle.talking.proofs.looking_first_stands.Goals as goal
 

@@ -1,3 +1,4 @@
+-- The theorem that the contract names.
 use Rattle.talking.proofs.Talking.{one_capacity}
 use Rattle.talking.proofs.one_capacity_stands.Goals as goal
 

@@ -1,3 +1,4 @@
+-- The theorem that the contract names.
 use Rattle.talking.proofs.Talking.{row_numbers}
 use Rattle.talking.proofs.row_numbers_stands.Goals as goal
 

@@ -1,3 +1,4 @@
+-- What is kept stands in the part of memory that is lent, and the rest is as it was.
 use Rattle.cache.specs.Places.{keep_in}
 use Rattle.answering.proofs.Within.{cache_written}
 use Rattle.answering.proofs.cached.keep.Goals as goal

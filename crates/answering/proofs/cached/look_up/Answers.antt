@@ -1,3 +1,4 @@
+-- What is looked up in is the part of memory that is lent.
 use Rattle.std.proofs.Common.{◌∙◌}
 use Rattle.cache.specs.Places.{look_up}
 use Rattle.answering.proofs.Within.{cache_read}

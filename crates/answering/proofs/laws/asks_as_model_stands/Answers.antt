@@ -1,3 +1,4 @@
+-- The theorems that the contract names.
 use Rattle.answering.proofs.Tied.{queries_as_model, queries_with_row}
 use Rattle.answering.proofs.laws.asks_as_model_stands.Goals as goal
 

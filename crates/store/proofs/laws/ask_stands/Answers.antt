@@ -1,3 +1,4 @@
+-- The theorems that the contract names.
 use Rattle.store.proofs.Asks.{ask_follows, ask_with_row}
 use Rattle.store.proofs.laws.ask_stands.Goals as goal
 

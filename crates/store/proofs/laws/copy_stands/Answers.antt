@@ -1,3 +1,4 @@
+-- The theorem that the contract names.
 use Rattle.store.proofs.Copies.{copy_follows}
 use Rattle.store.proofs.laws.copy_stands.Goals as goal
 

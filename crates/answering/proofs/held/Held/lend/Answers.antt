@@ -1,3 +1,4 @@
+-- One more part is lent.
 use Rattle.answering.specs.Places.{part_at}
 use Rattle.answering.proofs.Listed.{one_lent}
 use Rattle.answering.proofs.held.Held.lend.Goals as goal

@@ -1,3 +1,4 @@
+-- One more version is in the list.
 use Rattle.answering.specs.Places.{version_at}
 use Rattle.answering.proofs.Listed.{one_more}
 use Rattle.answering.proofs.held.Held.versions.Goals as goal

@@ -9,9 +9,9 @@ use Rattle.query.specs.declared.Query.TheVariants.{Rows, Total, Shared}
 use Rattle.query.proofs.Views.{has_head, has_tail}
 use Rattle.request.specs.declared.Request.{Request}
 use Rattle.request.specs.declared.Request.TheVariants.{Write, Delete, Copy, Query as Ask}
-use Rattle.model.specs.Model.{State, Call, empty, who, asks, there, may_copy, capacities, needed, Kept, look_up, answering, remembered, respond, response, next, step, run, responses, told, relevant, purge}
+use Rattle.model.specs.Model.{State, Call, who, asks, there, may_copy, capacities, needed, Kept, look_up, answering, remembered, respond, response, next, step, run, responses, told, relevant, purge}
 use Rattle.model.specs.Sameness.{RulesAlike}
-use Rattle.model.proofs.Interference.{absent, noninterference}
+use Rattle.model.proofs.Interference.{absent}
 
 -- what stands in a list whose numbers are all below n is below n
 all_below : (n c : ℕ) (xs : List ℕ) → ((i : ℕ) → i < length xs → get_or xs i 0 < n) → has xs c ≡ true → c < n
@@ -121,11 +121,6 @@ module _ (p q : Rules) (n most : ℕ) (same : Same p q n) (valid : Valid p n mos
 
   pub sound_alike : Sound q
   sound_alike u h = let l : u < p.users = rw same.users h in rw (← (same.view u l), ← (same.writes u l)) (valid.sound u l)
-
-  -- what anybody is told of the relevant calls, there or not
-  pub told_purged_alike : (limit v : ℕ) (calls : List Call) → told p limit v empty (purge p v calls) ≡ told q limit v empty (purge q v calls)
-  told_purged_alike limit v calls =
-      noninterference p limit v calls valid.sound ∙ (told_alike limit v empty calls ∙ sym (noninterference q limit v calls sound_alike))
 
 pub rules_alike : RulesAlike
 rules_alike p q n most limit s calls same valid = responses_alike p q n most same valid limit s calls

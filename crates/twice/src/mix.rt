@@ -1,13 +1,13 @@
 // Random requests: what one trace asks, and how often.
 use crate::random::Random;
-use crate::shape::Shape;
+use crate::shape::{CAPACITY, COMPARTMENTS, Shape};
 use query::Query;
 use request::Request;
 use rows::{KeyRange, Row};
 use std::alloc::{AllocError, Global};
 
-// The longest answer row that a policy of capacities up to 64 asks for; said for itself, as the length of memory is.
-pub(crate) const LONGEST: usize = 2080;
+// The longest answer row that a policy asks for: a header of 32 numbers, and two for each row. Said for itself, as the bounds are.
+pub(crate) const LONGEST: usize = 32 + 2 * (COMPARTMENTS * CAPACITY) as usize;
 
 // How many requests of a trace are mostly changes, so that there is something to ask for.
 const EARLY: usize = 15;
@@ -69,7 +69,7 @@ impl Mix {
         }
     }
 
-    // 20 to 200 requests.
+    // 20 to 200 requests: the range counts them, and indexes nothing.
     pub(crate) fn calls(&self, random: &mut Random, heap: Global) -> Result<Vec<Call>, AllocError> {
         let mut calls = Vec::new(heap);
         for _ in 0..random.between(20, 200) {
@@ -145,7 +145,7 @@ impl Mix {
     // Mostly one that is there; often one of those that everybody may see.
     fn compartment(&self, random: &mut Random) -> u64 {
         let bound = match random.below(20) {
-            0 => 16,
+            0 => COMPARTMENTS,
             1..=8 => self.shape.compartments.min(2),
             _ => self.shape.compartments,
         };

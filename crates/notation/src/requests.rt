@@ -11,13 +11,12 @@ use request::{QueryKind, Request};
 use rows::{KeyRange, Row};
 
 // The number there, if it is below the bound: that of a user or a compartment.
-fn index_at(line: Line, place: u8, bound: usize) -> Result<usize, Reason>
+fn below(line: Line, place: u8, bound: usize) -> Result<u64, Reason>
     requires { 0 < bound }
     ensures value { result ≡ within 0 (bound - 1) line.entry.bytes.now place }
     ensures below { IfOk result (λ n. n < bound) }
 {
-    let number = line.within(place, 0, bound as u64 - 1)?;
-    Ok(number as usize)
+    line.within(place, 0, bound as u64 - 1)
 }
 
 // A key or an amount.
@@ -42,7 +41,7 @@ fn range_at(line: Line, place: u8) -> Result<KeyRange, Reason>
 pub(crate) fn request_in(line: Line) -> Result<Request, Reason>
     ensures { result ≡ request_said line.entry.bytes.now }
 {
-    let user = index_at(line, 0, USERS)?;
+    let user = below(line, 0, USERS)? as usize;
     let verb = line.verb(1)?;
     asked(line, user, verb)
 }
@@ -68,7 +67,7 @@ fn asked(line: Line, user: usize, verb: Verb) -> Result<Request, Reason>
             Ok(Request::Delete { user, key })
         }
         Verb::Copy => {
-            let compartment = index_at(line, 2, COMPARTMENTS)?;
+            let compartment = below(line, 2, COMPARTMENTS)?;
             let range = range_at(line, 3)?;
             Ok(Request::Copy {
                 user,
@@ -91,8 +90,8 @@ fn query_in(line: Line, kind: QueryKind) -> Result<Query, Reason>
         QueryKind::Rows => range_at(line, 2).map(|range| Query::Rows { range }),
         QueryKind::Total => range_at(line, 2).map(|range| Query::Total { range }),
         QueryKind::Shared => {
-            let a = index_at(line, 2, COMPARTMENTS)?;
-            let b = index_at(line, 3, COMPARTMENTS)?;
+            let a = below(line, 2, COMPARTMENTS)?;
+            let b = below(line, 3, COMPARTMENTS)?;
             let range = range_at(line, 4)?;
             Ok(Query::Shared { a, b, range })
         }

@@ -59,7 +59,7 @@ fn push_query(bytes: &mut Vec<u8>, user: u64, query: Query) -> Result<(), AllocE
             bytes,
             &single,
             4,
-            &[a as u64, b as u64, range.from.into(), range.to.into()],
+            &[a, b, range.from.into(), range.to.into()],
         ),
     }
 }
@@ -88,7 +88,7 @@ fn push_request(bytes: &mut Vec<u8>, request: Request) -> Result<(), AllocError>
             bytes,
             &[Kind::Copy.into(), user as u64],
             4,
-            &[compartment as u64, range.from.into(), range.to.into()],
+            &[compartment, range.from.into(), range.to.into()],
         ),
         Request::Query { user, query } => push_query(bytes, user as u64, query),
     }

@@ -34,7 +34,7 @@ pub enum Request {
     // The rows of a range of a compartment come there too.
     Copy {
         user: usize,
-        compartment: usize,
+        compartment: u64,
         range: KeyRange,
     },
     // A query over what the user sees.
@@ -71,7 +71,7 @@ pub fn decode(numbers: &[u64]) -> Result<Request, Refusal>
 {
     let numbers = Numbers { all: numbers };
     let kind = numbers.value(0)?;
-    let user = numbers.index(1, USERS)?;
+    let user = numbers.below(1, USERS)? as usize;
     decode_as(kind, user, numbers)
 }
 
@@ -93,7 +93,7 @@ fn decode_as(kind: Kind, user: usize, numbers: Numbers) -> Result<Request, Refus
             Ok(Request::Delete { user, key })
         }
         Kind::Copy => {
-            let compartment = numbers.index(2, COMPARTMENTS)?;
+            let compartment = numbers.below(2, COMPARTMENTS)?;
             let range = numbers.range(3)?;
             Ok(Request::Copy {
                 user,
@@ -116,8 +116,8 @@ fn decode_query(kind: QueryKind, numbers: Numbers) -> Result<Query, Refusal>
         QueryKind::Rows => numbers.range(3).map(|range| Query::Rows { range }),
         QueryKind::Total => numbers.range(3).map(|range| Query::Total { range }),
         QueryKind::Shared => {
-            let a = numbers.index(3, COMPARTMENTS)?;
-            let b = numbers.index(4, COMPARTMENTS)?;
+            let a = numbers.below(3, COMPARTMENTS)?;
+            let b = numbers.below(4, COMPARTMENTS)?;
             let range = numbers.range(5)?;
             Ok(Query::Shared { a, b, range })
         }

@@ -32,12 +32,12 @@ impl Numbers<'_> {
     }
 
     // The number there, if it is below the bound: that of a user or a compartment.
-    pub(crate) fn index(self, place: usize, bound: usize) -> Result<usize, Refusal>
+    pub(crate) fn below(self, place: usize, bound: usize) -> Result<u64, Refusal>
         ensures { result ≡ below bound self.entry.all.now place }
     {
         let number = self.number(place)?;
         (number < bound as u64)
-            .then_some(number as usize)
+            .then_some(number)
             .ok_or(Refusal::NoRequest { place })
     }
 

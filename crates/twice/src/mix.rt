@@ -6,8 +6,11 @@ use request::Request;
 use rows::{KeyRange, Row};
 use std::alloc::{AllocError, Global};
 
-// The longest answer row that a policy asks for: a header of 32 numbers, and two for each row. Said for itself, as the bounds are.
-pub(crate) const LONGEST: usize = 32 + 2 * (COMPARTMENTS * CAPACITY) as usize;
+// The numbers of an answer row before its rows. Said here for itself, as the bounds in shape.rt are.
+pub(crate) const HEADER: u32 = 32;
+
+// The longest answer row that a policy asks for: a header, and two numbers for each row.
+pub(crate) const LONGEST: usize = (HEADER + 2 * COMPARTMENTS * CAPACITY) as usize;
 
 // How many requests of a trace are mostly changes, so that there is something to ask for.
 const EARLY: usize = 15;
@@ -191,8 +194,8 @@ impl Mix {
 // Mostly long enough.
 fn length(random: &mut Random) -> usize {
     match random.below(10) {
-        0 => random.below(34) as usize,
-        1 => random.between(32, 91) as usize,
+        0 => random.below(HEADER + 2) as usize,
+        1 => random.between(HEADER, 91) as usize,
         _ => LONGEST,
     }
 }

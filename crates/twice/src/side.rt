@@ -8,7 +8,7 @@ use std::alloc::{AllocError, Global};
 use store::Reply;
 
 // The memory of the largest policy: two numbers for each compartment and each of its rows, and 192 for each user's cache.
-// `play_for` has this too; it is said here for itself, as the bounds are.
+// `play_for` has this too; it is said here for itself, as the bounds in shape.rt are.
 const MEMORY: usize = (COMPARTMENTS * (2 + 2 * CAPACITY) + 192 * USERS) as usize;
 
 // What a call tells.

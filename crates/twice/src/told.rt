@@ -1,10 +1,11 @@
 // What comes of a request, by the name under which it is counted.
 use crate::event::Event;
+use crate::mix::HEADER;
 use crate::shape::CAPACITY;
 use crate::side::Response;
 use crate::trace::Turn;
 use policy::Refusal;
-use query::{Answered, HEADER, Outcome};
+use query::{Answered, Outcome};
 use request::Request;
 use store::Reply;
 
@@ -83,5 +84,5 @@ fn answered(outcome: Outcome, row: &[u64]) -> Event {
 
 // The header of the answer row counts no rows.
 fn no_rows(row: &[u64]) -> bool {
-    row.iter().take(HEADER).all(|count| *count == 0)
+    row.iter().take(HEADER as usize).all(|count| *count == 0)
 }

@@ -23,6 +23,7 @@ fn refused_with(place: usize, number: u64) -> Option<Refusal> {
 
 #[test]
 fn says_who_sees_what(rt: HostRuntime) -> Result<(), Fail> {
+    // No `?` and no `expect`, for the reason at `refused` (both tried here).
     let Ok(policy) = Policy::read(&THREE, 64) else {
         return Err(Fail::from("refused"));
     };
@@ -43,6 +44,7 @@ fn says_who_sees_what(rt: HostRuntime) -> Result<(), Fail> {
 
 #[test]
 fn says_where_things_lie(rt: HostRuntime) -> Result<(), Fail> {
+    // As above: no `?` and no `expect`.
     let Ok(policy) = Policy::read(&THREE, 3) else {
         return Err(Fail::from("refused"));
     };

@@ -27,20 +27,26 @@ fn copy(user: usize, compartment: u64) -> Request {
     }
 }
 
-// Why the request is refused, if it is. A refusal is what is asked for here, and no failure of a test.
-fn refused(memory: &mut [u64], request: Request) -> Option<Refusal> {
+// Why the call is refused, if it is. A refusal is what is asked for here, and no failure of a test.
+fn refusal_of<T, F>(call: F) -> Option<Refusal>
+where
+    T: Drop,
+    F: FnOnce(&Policy) -> Result<T, Refusal>,
+    requires { F.IsAlwaysCallable call }
+{
     // A policy goes through no `and_then`: in a function that uses no `Contract` this is not proved (tried in `trace`).
     match Policy::read(&THREE, 64) {
-        Ok(policy) => store::serve(&policy, memory, &mut [0; 48], request).err(),
+        Ok(policy) => call(&policy).err(),
         Err(refusal) => Some(refusal),
     }
 }
 
+fn refused(memory: &mut [u64], request: Request) -> Option<Refusal> {
+    refusal_of(|policy| store::serve(policy, memory, &mut [0; 48], request))
+}
+
 fn refused_opening(memory: &mut [u64]) -> Option<Refusal> {
-    match Policy::read(&THREE, 64) {
-        Ok(policy) => store::open(&policy, memory).err(),
-        Err(refusal) => Some(refusal),
-    }
+    refusal_of(|policy| store::open(policy, memory))
 }
 
 #[test]

@@ -10,7 +10,7 @@ use Rattle.overview.specs.Forms.{table, graph}
 
 -- of a count, what passes a test is kept
 kept_has : (test : ℕ → Bool) (i n b : ℕ) → has (filter test (range_with_len i n)) b ≡ true → (i ≤ b) × (b < i + n) × (test b ≡ true)
-kept_has test i zero b e = absurd (let z : ◌≡◌ {A = ℕ} 0 1 = cc in omega arith)
+kept_has test i zero b e = absurd cc
 kept_has test i (suc n) b e = elim (cases_Bool (test i)) [
   | inl t ↦ elim (or_cases (eqb i b) (has (filter test (range_with_len (i + 1) n)) b) (rw t at e)) [
     | inl s ↦ let same = eqb-true i b s in (omega arith, omega arith, rw (← same) t)

@@ -7,6 +7,7 @@ use super::form::Form;
 use policy::Policy;
 use std::alloc::AllocError;
 
+#[tactic(auto, using(crate::proofs::There::compartments_counted))]
 pub(crate) fn push_compartments<F: Form>(
     text: &mut String,
     policy: &Policy,
@@ -20,6 +21,7 @@ pub(crate) fn push_compartments<F: Form>(
 }
 
 // A compartment, and those to which its rows may flow.
+#[tactic(auto, using(crate::proofs::There::compartments_counted))]
 fn push_compartment<F: Form>(
     text: &mut String,
     policy: &Policy,
@@ -30,6 +32,7 @@ fn push_compartment<F: Form>(
     ensures { OnOk result (string_bytes text.new ≡ string_bytes text.old ++ compartment_bytes F.shape (rules_of policy.now) policy.now.compartments from capacity) }
 {
     F::push_compartment(text, from, capacity)?;
+    // The range indexes nothing: form and policy are asked of each pair of compartments.
     for to in 0..policy.places().len() {
         if F::shows(from, to) && policy.may_flow(from as u64, to as u64) {
             F::push_flow(text, from, to)?;

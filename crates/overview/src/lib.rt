@@ -19,6 +19,9 @@ use std::alloc::{AllocError, Global};
 use std::fmt::Write;
 use users::push_users;
 
+// `table` and `graph` are two functions: only a graph has a first and a last line, and each contract says its own text. One over a form
+// would give these two lines, empty in a table, to every form.
+
 // A line for each user, then one for each compartment.
 pub fn table(heap: Global, policy: &Policy) -> Result<String, AllocError>
     ensures { IfOk result (λ t. string_bytes t ≡ table_bytes (rules_of policy.now) policy.now.compartments) }

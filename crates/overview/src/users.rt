@@ -8,6 +8,7 @@ use super::form::Form;
 use policy::{Contract, Policy};
 use std::alloc::AllocError;
 
+#[tactic(auto, using(crate::proofs::There::users_counted))]
 pub(crate) fn push_users<F: Form>(text: &mut String, policy: &Policy) -> Result<(), AllocError>
     ensures { OnOk result (string_bytes text.new ≡ string_bytes text.old ++ users_bytes F.shape (rules_of policy.now)) }
 {

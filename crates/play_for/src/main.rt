@@ -1,18 +1,21 @@
 // Plays a trace from standard input purged for one user: their lines, and one on standard error where it was refused.
 #![tactic(auto)]
 
+use played::MOST;
+use policy::{CACHE, COMPARTMENTS, USERS};
 use std::env;
 use std::io::{self, Read};
 use std::process::ExitCode;
 
-// The most that a policy of a trace asks for: sixteen compartments of 64 rows, and 32 caches.
-const MEMORY: usize = 8224;
+// The most that a policy of a trace asks for: each compartment has two numbers before its rows, and each row has two.
+const MEMORY: usize = COMPARTMENTS * (2 + 2 * MOST as usize) + USERS * CACHE;
 
 fn main(rt: HostRuntime) -> io::Result<ExitCode> {
     let Some(user) = asked(&rt) else {
         eprintln!(rt; "usage: play_for USER < TRACE (USER from 0 to 255)")?;
         return Ok(ExitCode::FAILURE);
     };
+    // The two lines that read stand in five programs, for the reason that stands in `play`.
     let mut bytes = Vec::new(rt.alloc());
     rt.stdin().read_to_end(&mut bytes)?;
     let mut memory = [0; MEMORY];
@@ -22,10 +25,9 @@ fn main(rt: HostRuntime) -> io::Result<ExitCode> {
 
 // The user that the one argument names, if it is a decimal number of a byte; the first word is the program's name.
 fn asked(rt: &HostRuntime) -> Option<u8> {
-    let mut arguments = env::args(rt).ok()?;
-    let _ = arguments.next();
-    let word = arguments.next()?;
-    if arguments.next().is_some() || word.as_str().starts_with("+") {
+    let mut words = env::args(rt).ok()?.skip(1);
+    let word = words.next()?;
+    if words.next().is_some() || word.as_str().starts_with("+") {
         return None;
     }
     word.as_str().parse().ok()

@@ -1,12 +1,13 @@
 -- What is relevant to a user, as the policy's code decides it.
-use Rattle.std.proofs.Common.{◌≡◌, ℕ, Bool, true, false, eqb, ltb, Some, sym, refl, ◌∙◌, inl, inr, arith}
-use Rattle.model.specs.Model.{who, asks, there, lend, relevant}
+use Rattle.std.proofs.Common.{◌≡◌, ℕ, Bool, false, eqb, ltb, Option, refl, ◌∙◌, inl, inr}
+use Rattle.model.specs.Model.{who, asks, lend, relevant}
 use Rattle.policy.specs.Access.{rules_of, may_see, written_at}
-use Rattle.policy.specs.Rules.{Rules, sees}
+use Rattle.policy.specs.Rules.{sees}
 use Rattle.policy.specs.declared.Policy.{Policy}
 use Rattle.policy.specs.declared.place.Written.{Written}
 use Rattle.request.specs.declared.Request.{Request}
 use Rattle.std.proofs.lemmas.Bool.{cases_Bool, lt-ltb}
+use Rattle.std.specs.Option.{MatchOption}
 use Rattle.store.proofs.Asks.{seer_there}
 
 -- who sees something is there
@@ -16,21 +17,13 @@ may_see_is p v c = elim (cases_Bool (sees (rules_of p) v c)) [
   | inr e ↦ elim (cases_Bool (ltb v p.users)) [ inl t ↦ rw (t, e) refl | inr t ↦ rw (t, e) refl ]
 ]
 
--- a user for whom there is a compartment to write in is there, and that is the one
-writer_there : (p : Policy) (u : ℕ) (w : Written) → Some w ≡ written_at p u → (there (rules_of p) u ≡ true) × (w.compartment ≡ (rules_of p).writes u)
-writer_there p u w e = elim (cases_Bool (ltb u p.users)) [
-  | inl t ↦ (t, let f = rw t at e in cc)
-  | inr t ↦ let f = rw t at e in let z : ◌≡◌ {A = ℕ} 0 1 = cc in absurd (omega arith)
+-- a change of somebody else is relevant to who sees where they write, if they are there
+pub change_of_others : (p : Policy) (v lent u : ℕ) (r : Request) (o : Option Written) (b : Bool) {P : Written → Type 0} →
+    u ≡ who r → eqb u v ≡ false → asks r ≡ false → o ≡ written_at p u → MatchOption o (b ≡ false) P → ((w : Written) → P w → b ≡ may_see (rules_of p) v w.compartment) →
+    b ≡ relevant (rules_of p) v (lend r lent)
+change_of_others p v lent u r o b i other change e m each = elim (cases_Bool (ltb u p.users)) [
+  | inl t ↦
+      let s : b ≡ may_see (rules_of p) v ((rules_of p).writes u) = each _ (rw (e, t) at m) in
+      rw (← i, other, t, change) (s ∙ may_see_is p v ((rules_of p).writes u))
+  | inr t ↦ let s : b ≡ false = rw (e, t) at m in rw (← i, other, t) s
 ]
-
--- somebody else's change
-others : (p : Rules) (v lent : ℕ) (r : Request) → eqb (who r) v ≡ false → there p (who r) ≡ true → asks r ≡ false → relevant p v (lend r lent) ≡ sees p v (p.writes (who r))
-others p v lent r o t a = rw (o, t, a) refl
-
-pub change_of_others : (p : Policy) (v lent u : ℕ) (r : Request) (w : Written) (b : Bool) → u ≡ who r → eqb u v ≡ false → Some w ≡ written_at p u → false ≡ asks r →
-    b ≡ may_see (rules_of p) v w.compartment → b ≡ relevant (rules_of p) v (lend r lent)
-change_of_others p v lent u r w b i o e a s =
-    let t = writer_there p u w e in
-    let h : there (rules_of p) (who r) ≡ true = rw (sym i) t.0 in
-    let k : eqb (who r) v ≡ false = rw (sym i) o in
-    s ∙ (may_see_is p v w.compartment ∙ (rw (t.1, i) refl ∙ sym (others (rules_of p) v lent r k h (sym a))))

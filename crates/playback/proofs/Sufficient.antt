@@ -115,38 +115,35 @@ row_enough bytes e user query h =
 abbrev Other : Response → Type 0
 Other r = (n : ℕ) → r ≡ refused (ShortRow n) → ⊥
 
-clash : ◌≡◌ {A = ℕ} 0 1 → ⊥
-clash z = omega arith
-
 either : (b : Bool) (r q : Response) → (b ≡ true → Other r) → Other q → Other (cond b r q)
 either true r q f g = f refl
 either false r q f g = g
 
 module _ (p : Rules) (s : State) where
   changing_other : (c : ℕ) → Other (changing limit s c)
-  changing_other c = either (ltb (suc (s.version c)) limit) done (refused (LastVersion c)) (λ _ n e. clash cc) (λ n e. clash cc)
+  changing_other c = either (ltb (suc (s.version c)) limit) done (refused (LastVersion c)) (λ _ n e. cc) (λ n e. cc)
 
   filling_other : (c : ℕ) (new : List Row) → Other (filling p limit s c new)
   filling_other c new =
-      either (leb (length new) (p.capacity c)) (changing limit s c) (refused (NoRoom (p.capacity c))) (λ _. changing_other c) (λ n e. clash cc)
+      either (leb (length new) (p.capacity c)) (changing limit s c) (refused (NoRoom (p.capacity c))) (λ _. changing_other c) (λ n e. cc)
 
   answering_other : (user : ℕ) (query : Query) (o : Option Kept) → Other (answering p s user query o)
-  answering_other user query (Some kept) n e = clash cc
-  answering_other user query None n e = clash cc
+  answering_other user query (Some kept) n e = cc
+  answering_other user query None n e = cc
 
   -- of somebody who is there
   user_other : (user : ℕ) (r : Response) → (user < p.users → Other r) → Other (cond (there p user) r (refused (NoUser user)))
-  user_other user r f = either (there p user) r (refused (NoUser user)) (λ t. f (ltb-true user p.users t)) (λ n e. clash cc)
+  user_other user r f = either (there p user) r (refused (NoUser user)) (λ t. f (ltb-true user p.users t)) (λ n e. cc)
 
   item_other : ((user : ℕ) (query : Query) → user < p.users → needed p user query ≤ lent) → (i : Item) → Other (item_tells p s i)
-  item_other enough (item.NoRequest user place) = λ n e. clash cc
+  item_other enough (item.NoRequest user place) = λ n e. cc
   item_other enough (item.Request (request.Write user row)) = user_other user _ (λ _. filling_other (p.writes user) (put row (s.rows (p.writes user))))
   item_other enough (item.Request (request.Delete user key)) =
       let c = p.writes user in
-      user_other user _ (λ _. either (has_key key (s.rows c)) (changing limit s c) (refused (NoRow key)) (λ _. changing_other c) (λ n e. clash cc))
+      user_other user _ (λ _. either (has_key key (s.rows c)) (changing limit s c) (refused (NoRow key)) (λ _. changing_other c) (λ n e. cc))
   item_other enough (item.Request (request.Copy user c range)) =
       let new = copied p s user c range in
-      either (may_copy p user c) (filling p limit s (p.writes user) new) (refused (NoFlow c)) (λ _. filling_other (p.writes user) new) (λ n e. clash cc)
+      either (may_copy p user c) (filling p limit s (p.writes user) new) (refused (NoFlow c)) (λ _. filling_other (p.writes user) new) (λ n e. cc)
   item_other enough (item.Request (request.Query user query)) =
       user_other user _ (λ h. rw (le-leb (needed p user query) lent (enough user query h)) (answering_other user query (look_up p s user query)))
 

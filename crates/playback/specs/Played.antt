@@ -1,5 +1,5 @@
 -- What playing a trace prints and leaves, and how it ends.
-use Rattle.std.specs.Prelude.{◌≡◌, ℕ, ◌+◌, ◌*◌, cond, List, [], ◌∷◌, take, drop, replicate, Some, None, Option, nat_lt}
+use Rattle.std.specs.Prelude.{◌≡◌, ℕ, ◌+◌, ◌*◌, cond, List, [], filter_map, take, drop, replicate, Some, None, Option, nat_lt}
 use Rattle.model.specs.Model.{empty}
 use Rattle.policy.specs.Layout.{end_from}
 use Rattle.policy.specs.Numbers.{judged, rules_in, users_in, compartments_in, user_at}
@@ -53,11 +53,14 @@ opening_by None long bytes = short_of long bytes
 abbrev pub opening_with : ℕ → List ℕ → Option Refusal
 opening_with long bytes = opening_by (opening bytes) long bytes
 
--- the requests among items, each with an answer row
+-- an item that is a request, with an answer row
+abbrev pub made : Item → Option Made
+made (Request r) = Some (record { request = r; row = replicate lent 0 })
+made (NoRequest user place) = None
+
+-- the requests among items
 abbrev pub made_in : List Item → List Made
-made_in [] = []
-made_in (Request r ∷ is) = record { request = r; row = replicate lent 0 } ∷ made_in is
-made_in (NoRequest user place ∷ is) = made_in is
+made_in is = filter_map made is
 
 -- memory afterwards is what the requests that are relevant to the user leave of an empty one, and no others
 pub record Purged (v : ℕ) (bytes before now : List ℕ) : Type 0 where

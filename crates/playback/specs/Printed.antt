@@ -1,5 +1,5 @@
 -- Who is told what along a trace, by the model, and the text of it.
-use Rattle.std.specs.Prelude.{ℕ, Bool, true, cond, List, [], ◌∷◌, ◌++◌, Some, None, Option, ◌==◌}
+use Rattle.std.specs.Prelude.{ℕ, Bool, true, List, [], ◌∷◌, filter, flat_map, Some, None, Option, ◌==◌}
 use Rattle.compartment.specs.Parts.{limit}
 use Rattle.model.specs.Model.{State, Response, lend, response, step, relevant}
 use Rattle.model.specs.Model as model
@@ -43,8 +43,7 @@ hears (Some v) user = user == v
 
 -- the lines of who is played for
 abbrev pub heard_by : Audience → List Line → List Line
-heard_by a [] = []
-heard_by a (l ∷ ls) = cond (hears a l.user) (l ∷ heard_by a ls) (heard_by a ls)
+heard_by a ls = filter (λ l. hears a l.user) ls
 
 -- an item concerns one user if it is a request that is relevant to them, or their own that is none
 abbrev pub concerns_one : Rules → ℕ → Item → Bool
@@ -56,10 +55,8 @@ concerns p None i = true
 concerns p (Some v) i = concerns_one p v i
 
 abbrev pub concerning : Rules → Audience → List Item → List Item
-concerning p a [] = []
-concerning p a (i ∷ is) = cond (concerns p a i) (i ∷ concerning p a is) (concerning p a is)
+concerning p a is = filter (concerns p a) is
 
 -- lines as they are printed
 abbrev pub text : List Line → List ℕ
-text [] = []
-text (l ∷ ls) = line l.user l.response ++ text ls
+text ls = flat_map (λ l. line l.user l.response) ls

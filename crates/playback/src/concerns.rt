@@ -18,7 +18,8 @@ pub(crate) fn concerns(policy: &Policy, user: usize, item: Item) -> bool
     }
 }
 
-// A request is relevant to its own user, and to who sees where it may change something.
+// A request is relevant to its own user, and to who sees where it may change something. The random traces of `twice` have the same test
+// for themselves: it is a rule of the project that a check is independent of what it checks.
 fn is_relevant(policy: &Policy, user: usize, request: Request) -> bool
     ensures { result ≡ relevant (rules_of policy.now) user (lend request lent) }
 {

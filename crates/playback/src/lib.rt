@@ -13,6 +13,8 @@ use opening::{play_everyone, play_one};
 pub use played::Played;
 use std::alloc::{AllocError, Global};
 
+// `play` and `play_for` have the three lines of `trace`'s `play`, for the reason that stands there.
+
 // Plays the trace in the bytes for everyone.
 pub fn play(heap: Global, bytes: &[u8]) -> Result<Played, AllocError>
     ensures text { IfOk result (λ x. string_bytes x.text ≡ text_of bytes.now) }

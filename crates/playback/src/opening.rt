@@ -42,7 +42,7 @@ pub(crate) fn play_one(
     }
 }
 
-// Opens memory, and plays what lies behind the policy.
+// Opens memory, and plays what lies behind the policy. What is handed on stands apart for the reason at `play_items` in turns.rt.
 fn play_behind(
     text: &mut String,
     policy: &Policy,

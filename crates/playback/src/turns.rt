@@ -8,13 +8,14 @@ ghost use Rattle.playback.specs.Printed.{lent};
 ghost use Rattle.words.specs.Words.{line};
 
 use super::concerns::concerns;
-use played::{Item, Items, Stop};
-use policy::{Policy, Refusal};
+use played::{Item, Items, MOST, Stop};
+use policy::{COMPARTMENTS, Policy, Refusal};
+use query::HEADER;
 use std::alloc::AllocError;
 use store::Reply;
 
-// An answer row that is long enough for sixteen compartments of 64 rows.
-const ROW: usize = 2080;
+// An answer row that is long enough for the largest policy of a trace: two numbers for each row, behind a header.
+const ROW: usize = HEADER + 2 * COMPARTMENTS * MOST as usize;
 
 // Plays the items up to where the trace is broken off, for one viewer or for everyone.
 // What the text holds afterwards is said in std's words in each clause: a word of our own for it would have to be looked up, and says no more.

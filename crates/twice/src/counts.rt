@@ -1,8 +1,8 @@
 // How often each kind of thing happened.
 use crate::event::{ALL, EVENTS, Event};
-use crate::mix::Call;
+use crate::shape::{CAPACITY, USERS};
 use crate::side::Response;
-use crate::trace::Trace;
+use crate::trace::{Trace, Turn};
 use policy::Policy;
 use request::Request;
 use std::fmt;
@@ -10,8 +10,8 @@ use store::Reply;
 
 #[derive(Drop)]
 pub(crate) struct Counts {
-    // A count for each event, in the order of `ALL`, which is the enum's: a map would have to be filled from `ALL` first, since those
-    // that never happen are told too.
+    // A count for each event, in the order of `ALL`, which is the enum's. No map: it allocates, so that each `add` would return a
+    // `Result`, and `Event` would need an order.
     counts: [u64; EVENTS],
 }
 
@@ -37,32 +37,27 @@ impl Counts {
     pub(crate) fn add_trace(&mut self, trace: &Trace) {
         self.add(Event::Trace);
         self.add_if(trace.users == 1, Event::OneUser);
-        self.add_if(trace.users == 32, Event::MostUsers);
+        self.add_if(trace.users == USERS as usize, Event::MostUsers);
         self.add_capacities(&trace.policy);
     }
 
     fn add_capacities(&mut self, policy: &Policy) {
         for place in policy.places() {
             self.add_if(place.capacity == 1, Event::LeastCapacity);
-            self.add_if(place.capacity == 64, Event::MostCapacity);
+            self.add_if(place.capacity == CAPACITY as usize, Event::MostCapacity);
         }
     }
 
     // A request, and what came of it.
-    pub(crate) fn add_told(
-        &mut self,
-        policy: &Policy,
-        call: Call,
-        response: Response,
-        row: &[u64],
-    ) {
+    pub(crate) fn add_told(&mut self, turn: Turn, response: Response, row: &[u64]) {
         self.add(Event::Request);
-        self.add(Event::of(policy, call.request, response, row));
-        if let (Request::Write { row, .. }, Ok(Reply::Done)) = (call.request, response) {
+        self.add(turn.event(response, row));
+        let request = turn.call.request;
+        if let (Request::Write { row, .. }, Ok(Reply::Done)) = (request, response) {
             self.add_if(row.key == 0, Event::LowestKey);
             self.add_if(row.key == u32::MAX, Event::HighestKey);
         }
-        let range = match call.request {
+        let range = match request {
             Request::Copy { range, .. } => range,
             Request::Query { query, .. } => query.range(),
             Request::Write { .. } | Request::Delete { .. } => return,

@@ -1,13 +1,16 @@
 // Random requests: what one trace asks, and how often.
 use crate::random::Random;
-use crate::shape::Shape;
+use crate::shape::{CAPACITY, COMPARTMENTS, Shape};
 use query::Query;
 use request::Request;
 use rows::{KeyRange, Row};
 use std::alloc::{AllocError, Global};
 
-// The longest answer row that a policy of capacities up to 64 asks for; said for itself, as the length of memory is.
-pub(crate) const LONGEST: usize = 2080;
+// The numbers of an answer row before its rows. Said here for itself, as the bounds in shape.rt are.
+pub(crate) const HEADER: u32 = 32;
+
+// The longest answer row that a policy asks for: a header, and two numbers for each row.
+pub(crate) const LONGEST: usize = (HEADER + 2 * COMPARTMENTS * CAPACITY) as usize;
 
 // How many requests of a trace are mostly changes, so that there is something to ask for.
 const EARLY: usize = 15;
@@ -69,7 +72,7 @@ impl Mix {
         }
     }
 
-    // 20 to 200 requests.
+    // 20 to 200 requests: the range counts them, and indexes nothing.
     pub(crate) fn calls(&self, random: &mut Random, heap: Global) -> Result<Vec<Call>, AllocError> {
         let mut calls = Vec::new(heap);
         for _ in 0..random.between(20, 200) {
@@ -145,7 +148,7 @@ impl Mix {
     // Mostly one that is there; often one of those that everybody may see.
     fn compartment(&self, random: &mut Random) -> u64 {
         let bound = match random.below(20) {
-            0 => 16,
+            0 => COMPARTMENTS,
             1..=8 => self.shape.compartments.min(2),
             _ => self.shape.compartments,
         };
@@ -191,8 +194,8 @@ impl Mix {
 // Mostly long enough.
 fn length(random: &mut Random) -> usize {
     match random.below(10) {
-        0 => random.below(34) as usize,
-        1 => random.between(32, 91) as usize,
+        0 => random.below(HEADER + 2) as usize,
+        1 => random.between(HEADER, 91) as usize,
         _ => LONGEST,
     }
 }

@@ -2,8 +2,7 @@
 use policy::Policy;
 use request::Request;
 
-// The same rule stands in `playback`; the random traces say for themselves what is relevant, and take it from none of the programs
-// that they are beside.
+// The same test stands in `playback`, and isn't called here: it is a rule of the project that a check is independent of what it checks.
 // The viewer's own request; or a write, delete or copy by a user who is there and who writes in a compartment that the viewer sees.
 pub(crate) fn relevant(policy: &Policy, viewer: usize, request: Request) -> bool {
     let user = request.user();
@@ -11,6 +10,5 @@ pub(crate) fn relevant(policy: &Policy, viewer: usize, request: Request) -> bool
         return true;
     }
     let written = policy.written(user);
-    !request.is_query()
-        && written.is_some_and(|written| policy.sees(viewer, written.compartment))
+    !request.is_query() && written.is_some_and(|written| policy.sees(viewer, written.compartment))
 }

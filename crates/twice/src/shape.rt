@@ -2,6 +2,16 @@
 use crate::random::Random;
 use std::alloc::{AllocError, Global};
 
+// The largest policy of a trace. The numbers are said here once more and taken from no crate that is tested: it is a rule of the
+// project that a check is independent of what it checks.
+pub(crate) const USERS: u32 = 32;
+
+pub(crate) const COMPARTMENTS: u32 = 16;
+
+pub(crate) const CAPACITY: u32 = 64;
+
+// The ranges in this file count users, compartments or steps, and index nothing.
+
 // What all contracts of a policy are drawn from.
 #[derive(Clone, Copy)]
 pub(crate) struct Shape {
@@ -19,13 +29,13 @@ impl Shape {
     pub(crate) fn random(random: &mut Random) -> Shape {
         let users = match random.below(20) {
             0 => 1,
-            1 => 32,
+            1 => USERS,
             _ => random.between(2, 6),
         };
         let compartments = if random.happens(70) {
             random.between(1, 5)
         } else {
-            random.between(1, 16)
+            random.between(1, COMPARTMENTS)
         };
         Shape {
             users,
@@ -60,7 +70,7 @@ impl Shape {
             let writes = self.writes(random);
             let mut view = self.view(random, writes, heap)?;
             numbers.push(view.len() as u64)?;
-            view.resize(16, 0)?;
+            view.resize(COMPARTMENTS as usize, 0)?;
             numbers.extend_from_slice(view.as_slice())?;
             numbers.push(writes as u64)?;
         }
@@ -76,13 +86,13 @@ impl Shape {
         }
     }
 
-    // A view with the compartment in which the user writes, in an order that an odd step around the sixteen gives.
+    // A view with the compartment in which the user writes, in an order that an odd step around them all gives.
     fn view(&self, random: &mut Random, writes: u32, heap: Global) -> Result<Vec<u64>, AllocError> {
         let mut view = Vec::new(heap);
-        let first = random.below(16);
+        let first = random.below(COMPARTMENTS);
         let step = random.below(8).wrapping_mul(2).wrapping_add(1);
-        for i in 0..16u32 {
-            let compartment = first.wrapping_add(step.wrapping_mul(i)) % 16;
+        for i in 0..COMPARTMENTS {
+            let compartment = first.wrapping_add(step.wrapping_mul(i)) % COMPARTMENTS;
             if self.sees(random, writes, compartment) {
                 view.push(compartment as u64)?;
             }
@@ -100,9 +110,9 @@ impl Shape {
     // The smallest, the largest, or one of a few rows.
     fn capacity(&self, random: &mut Random) -> u32 {
         match random.below(10) {
-            0 => 64,
+            0 => CAPACITY,
             1 => 1,
-            _ if self.large => 64,
+            _ if self.large => CAPACITY,
             _ => random.between(2, 9),
         }
     }

@@ -1,13 +1,15 @@
 // A store on memory of its own, with the answer rows that are lent to it.
-use crate::mix::{Call, LONGEST};
+use crate::mix::LONGEST;
+use crate::shape::{CAPACITY, COMPARTMENTS, USERS};
+use crate::trace::Turn;
 use anyhow::anyhow;
 use policy::{Policy, Refusal};
 use std::alloc::{AllocError, Global};
 use store::Reply;
 
-// As many numbers as 16 compartments of 64 rows and the caches of 32 users take. `play_for` has this number too: the random
-// traces say for themselves how large they are, and take no number from the programs that they are beside.
-const MEMORY: usize = 8224;
+// The memory of the largest policy: two numbers for each compartment and each of its rows, and 192 for each user's cache.
+// `play_for` has this too; it is said here for itself, as the bounds in shape.rt are.
+const MEMORY: usize = (COMPARTMENTS * (2 + 2 * CAPACITY) + 192 * USERS) as usize;
 
 // What a call tells.
 pub(crate) type Response = Result<Reply, Refusal>;
@@ -39,13 +41,13 @@ impl Side {
 
     // Two methods, so that a call says by name whose answer row is lent; all they share is `serve`.
     // A call of the viewer.
-    pub(crate) fn serve_own(&mut self, policy: &Policy, call: Call) -> Response {
-        serve(policy, &mut self.memory, &mut self.own, call)
+    pub(crate) fn serve_own(&mut self, turn: Turn) -> Response {
+        turn.serve(&mut self.memory, &mut self.own)
     }
 
     // A call of somebody else.
-    pub(crate) fn serve_other(&mut self, policy: &Policy, call: Call) -> Response {
-        serve(policy, &mut self.memory, &mut self.others, call)
+    pub(crate) fn serve_other(&mut self, turn: Turn) -> Response {
+        turn.serve(&mut self.memory, &mut self.others)
     }
 
     // What the viewer's answer row holds.
@@ -54,8 +56,10 @@ impl Side {
     }
 }
 
-// A call on this memory, that is lent as much of the row as it asks for.
-fn serve(policy: &Policy, memory: &mut [u64], row: &mut [u64], call: Call) -> Response {
-    let length = call.length.min(row.len());
-    store::serve(policy, memory, &mut row[..length], call.request)
+impl Turn<'_> {
+    // The call on this memory, lent as much of the row as it asks for.
+    fn serve(self, memory: &mut [u64], row: &mut [u64]) -> Response {
+        let length = self.call.length.min(row.len());
+        store::serve(self.policy, memory, &mut row[..length], self.call.request)
+    }
 }

@@ -1,12 +1,10 @@
 // Two stores, on which a trace is played for each user: whole on the one, purged on the other.
 use crate::counts::Counts;
 use crate::event::Event;
-use crate::mix::Call;
 use crate::recent::Recent;
 use crate::relevant::relevant;
 use crate::side::Side;
-use crate::trace::Trace;
-use policy::Policy;
+use crate::trace::{Trace, Turn};
 use std::alloc::{AllocError, Global};
 
 #[derive(Drop)]
@@ -33,7 +31,7 @@ impl Stage {
         })
     }
 
-    // For all who are there, and one who isn't.
+    // For all who are there, and one who isn't: the range counts users, and indexes nothing.
     pub(crate) fn play(
         &mut self,
         trace: &Trace,
@@ -57,9 +55,10 @@ impl Stage {
         self.purged.open(&trace.policy)?;
         self.recent.forget();
         for (i, call) in trace.calls.iter().enumerate() {
+            let turn = trace.turn(*call);
             if call.request.user() != viewer {
-                self.play_other(&trace.policy, viewer, *call, counts);
-            } else if !self.play_own(&trace.policy, *call, counts)? {
+                self.play_other(turn, viewer, counts);
+            } else if !self.play_own(turn, counts)? {
                 return Ok(Some(i));
             }
         }
@@ -67,10 +66,10 @@ impl Stage {
     }
 
     // A request of somebody else is purged unless it is relevant.
-    fn play_other(&mut self, policy: &Policy, viewer: usize, call: Call, counts: &mut Counts) {
-        let response = self.whole.serve_other(policy, call);
-        if relevant(policy, viewer, call.request) {
-            let _ = self.purged.serve_other(policy, call);
+    fn play_other(&mut self, turn: Turn, viewer: usize, counts: &mut Counts) {
+        let response = self.whole.serve_other(turn);
+        if relevant(turn.policy, viewer, turn.call.request) {
+            let _ = self.purged.serve_other(turn);
             self.recent.changed(response);
         } else {
             counts.add(Event::Purged);
@@ -78,16 +77,11 @@ impl Stage {
     }
 
     // Whether the viewer is told the same on both.
-    fn play_own(
-        &mut self,
-        policy: &Policy,
-        call: Call,
-        counts: &mut Counts,
-    ) -> Result<bool, AllocError> {
-        let told = self.whole.serve_own(policy, call);
-        let purged = self.purged.serve_own(policy, call);
-        counts.add_told(policy, call, told, self.whole.row());
-        let fell_out = self.recent.fell_out(call.request, told)?;
+    fn play_own(&mut self, turn: Turn, counts: &mut Counts) -> Result<bool, AllocError> {
+        let told = self.whole.serve_own(turn);
+        let purged = self.purged.serve_own(turn);
+        counts.add_told(turn, told, self.whole.row());
+        let fell_out = self.recent.fell_out(turn.call.request, told)?;
         counts.add_if(fell_out, Event::FellOut);
         self.recent.changed(told);
         Ok(told == purged && self.whole.row() == self.purged.row())

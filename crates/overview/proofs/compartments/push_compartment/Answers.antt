@@ -1,4 +1,5 @@
-use Rattle.std.proofs.Common.{◌≡◌, ◌<◌, string_bytes, length, ap, ◌∙◌, arith, append_assoc}
+-- Each turn shows a flow, or leaves it out where the form or the policy does.
+use Rattle.std.proofs.Common.{◌<◌, string_bytes, ap, ◌∙◌, arith}
 use Rattle.std.proofs.lemmas.Grind.{common_steps}
 use Rattle.policy.specs.Access.{rules_of}
 use Rattle.overview.specs.Shown.{shows_flow}
@@ -13,8 +14,7 @@ loop-to-preserved g c =
     let p = c.args.policy.now in
     let from = c.args.from in
     let to = c.loop-to.to in
-    let n : length c.places-to-end.result.now ≡ p.compartments = rw c.places-to-end.ensures (compartments_counted p) in
-    let there : to < p.compartments = omega arith in
+    let there : to < p.compartments = grind (arith, compartments_counted) in
     let t = string_bytes c.push_compartment.new.text in
     elim c.if-shows.branch [
       | then-shows+then-may_flow+in_ok-push_flow w ↦
@@ -31,9 +31,4 @@ loop-to-preserved g c =
     ]
 
 pub returns : goal.returns
-returns g c =
-    let p = c.args.policy.now in
-    let n : length c.places-to-end.result.now ≡ p.compartments = rw c.places-to-end.ensures (compartments_counted p) in
-    let all : c.loop-to.to ≡ p.compartments = omega arith in
-    let shown = rw all at c.loop-to.invariant in
-    grind (arith, common_steps, append_assoc)
+returns g c = grind (arith, common_steps, compartments_counted)

@@ -1,3 +1,4 @@
+-- Of the compartments so far, those to which rows may flow are shown.
 use Rattle.std.proofs.Common.{◌≡◌, ◌++◌, string_bytes}
 use Rattle.policy.specs.Access.{rules_of}
 use Rattle.overview.specs.Shown.{flow_bytes}

@@ -1,17 +1,11 @@
-use Rattle.std.proofs.Common.{◌≡◌, string_bytes, length, sym, arith}
+-- Each turn shows one compartment more, with its capacity.
+use Rattle.std.proofs.Common.{string_bytes, sym}
 use Rattle.std.proofs.Math.ListN.{get_or-map}
 use Rattle.policy.specs.Access.{rules_of, places_of}
 use Rattle.policy.specs.declared.place.Place.{Place}
 use Rattle.overview.specs.Shown.{compartment_of}
 use Rattle.overview.proofs.Listing.{listed_more}
-use Rattle.overview.proofs.There.{compartments_counted}
 use Rattle.overview.proofs.compartments.push_compartments.Goals as goal
-
-pub push_compartment-requires : goal.push_compartment-requires
-push_compartment-requires g c =
-    let p = c.args.policy.now in
-    let n : length c.places-place-items.result.now ≡ p.compartments = rw c.places-place-items.ensures (compartments_counted p) in
-    omega arith
 
 pub loop-compartment-preserved : goal.loop-compartment-preserved
 loop-compartment-preserved g c =
@@ -19,10 +13,3 @@ loop-compartment-preserved g c =
     let p = c.args.policy.now in
     listed_more (compartment_of g.F.Form.shape (rules_of p) p.compartments) (string_bytes c.args.text.now) l.compartment l.invariant
     (rw (c.places-place-items.ensures, sym (get_or-map (λ (q : Place). q.capacity) (places_of p) l.compartment (record { start = 0; capacity = 0 }))) at c.in_ok-push_compartment.ensures)
-
-pub returns : goal.returns
-returns g c =
-    let p = c.args.policy.now in
-    let n : length c.places-place-items.result.now ≡ p.compartments = rw c.places-place-items.ensures (compartments_counted p) in
-    let all : c.loop-compartment.compartment ≡ p.compartments = omega arith in
-    rw all at c.loop-compartment.invariant

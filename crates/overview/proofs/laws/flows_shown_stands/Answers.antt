@@ -1,3 +1,4 @@
+-- The law is proved in Proved.
 use Rattle.overview.proofs.Proved.{flows_shown_stands}
 use Rattle.overview.proofs.laws.flows_shown_stands.Goals as goal
 

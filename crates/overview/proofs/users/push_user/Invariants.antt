@@ -1,3 +1,4 @@
+-- The compartments of the view so far are shown.
 use Rattle.std.proofs.Common.{◌≡◌, ◌++◌, take, string_bytes}
 use Rattle.std.specs.List.{flat_map}
 use Rattle.overview.proofs.users.push_user.Given as goal

@@ -1,3 +1,4 @@
+-- The users so far are shown.
 use Rattle.std.proofs.Common.{◌≡◌, ◌++◌, string_bytes}
 use Rattle.std.specs.List.{flat_map, range_with_len}
 use Rattle.policy.specs.Access.{rules_of}

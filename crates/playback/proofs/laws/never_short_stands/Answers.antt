@@ -1,3 +1,4 @@
+-- The law is proved in Sufficient.
 use Rattle.playback.proofs.Sufficient.{never_short}
 use Rattle.playback.proofs.laws.never_short_stands.Goals as goal
 

@@ -1,3 +1,4 @@
+-- The law is proved in Sufficient.
 use Rattle.playback.proofs.Sufficient.{row_enough}
 use Rattle.playback.proofs.laws.row_enough_stands.Goals as goal
 

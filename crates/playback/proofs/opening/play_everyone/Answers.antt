@@ -1,3 +1,4 @@
+-- Memory is as long as the policy asks for, so that all is printed.
 use Rattle.std.proofs.Common.{◌≡◌, ℕ, length, None, sym, ap, ◌∙◌}
 use Rattle.std.proofs.lemmas.List.{length-replicate}
 use Rattle.policy.specs.Access.{memory_length}

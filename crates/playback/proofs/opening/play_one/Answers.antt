@@ -1,3 +1,4 @@
+-- A policy that is read is not refused: what is printed and left is told by the numbers of the policy.
 use Rattle.std.proofs.Common.{Some, sym}
 use Rattle.played.proofs.Ended.{unless_weaker}
 use Rattle.playback.proofs.Opened.{one_text, one_left}

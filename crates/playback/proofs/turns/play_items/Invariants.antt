@@ -1,3 +1,4 @@
+-- What is done and what is still to come are the whole.
 use Rattle.std.proofs.Common.{◌≡◌, ◌++◌, replicate, string_bytes}
 use Rattle.played.specs.Items.{left, items_in, end_in}
 use Rattle.playback.specs.Along.{text_along, memory_along}

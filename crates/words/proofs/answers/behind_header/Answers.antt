@@ -1,3 +1,4 @@
+-- The rows behind the header, or none where the row is shorter.
 use Rattle.std.proofs.Common.{◌≡◌, ℕ, ◌+◌, ◌<◌, ◌≤◌, ◌⊎◌, Option, Some, None, Bor, List, [], length, drop, refl, ◌∙◌, sym, ap, arith}
 use Rattle.std.proofs.lemmas.List.{drop_all, take_rest}
 use Rattle.std.specs.List.{slice_range}

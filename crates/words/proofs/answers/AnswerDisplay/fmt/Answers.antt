@@ -1,3 +1,4 @@
+-- What is shared is the first of the rows behind the header.
 use Rattle.std.proofs.Common.{◌≡◌, take, map, refl}
 use Rattle.query.specs.Numbers.{read_answer}
 use Rattle.std.proofs.Output.{has_written_of_eq}

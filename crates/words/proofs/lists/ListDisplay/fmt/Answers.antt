@@ -1,3 +1,4 @@
+-- Each turn writes one of the rows that are left.
 use Rattle.std.proofs.Common.{◌+◌, [], ◌++◌, map, drop, get_or, rules, refl}
 use Rattle.std.proofs.lemmas.List.{drop_more}
 use Rattle.std.proofs.Output.{has_written_append, has_written_of_eq}

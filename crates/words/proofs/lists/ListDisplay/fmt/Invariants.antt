@@ -1,3 +1,4 @@
+-- What is written and the rows that are left to write are the whole.
 use Rattle.std.proofs.Common.{◌≡◌, ℕ, List, ◌++◌, map, drop, codes}
 use denote.Text.{Utf8}
 use denote.Shadow.{shadow}

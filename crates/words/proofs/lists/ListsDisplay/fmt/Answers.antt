@@ -1,3 +1,4 @@
+-- Each turn writes one of the lists that are left.
 use Rattle.std.proofs.Common.{◌≡◌, ◌+◌, [], ◌++◌, map, drop, rules, refl}
 use Rattle.query.specs.Numbers.{split}
 use Rattle.std.proofs.lemmas.List.{drop_all}

@@ -2,7 +2,7 @@
 use Rattle.std.proofs.Common.{◌≡◌, ℕ, suc, ◌<◌, Bool, true, cond, not, ◌&&◌, eqb, List, [], ◌∷◌, length, get_or, Some, None, Option, sym, refl, ap, ◌∙◌, inl, inr, suc-le-suc, zero-le}
 use Rattle.std.proofs.lemmas.Bool.{cases_Bool, or_cases, and_parts, eqb-true, ltb-true}
 use Rattle.policy.specs.Laws.{Same, Valid}
-use Rattle.policy.specs.Rules.{Rules, Sound, has, sees, flows}
+use Rattle.policy.specs.Rules.{Rules, has, sees, flows}
 use Rattle.policy.proofs.Alike.{may_copy_alike}
 use Rattle.query.specs.declared.Query.{Query}
 use Rattle.query.specs.declared.Query.TheVariants.{Rows, Total, Shared}
@@ -118,9 +118,6 @@ module _ (p q : Rules) (n most : ℕ) (same : Same p q n) (valid : Valid p n mos
     pub purge_alike : (calls : List Call) → purge p v calls ≡ purge q v calls
     purge_alike [] = refl
     purge_alike (call ∷ calls) = rw (relevant_alike call, purge_alike calls) refl
-
-  pub sound_alike : Sound q
-  sound_alike u h = let l : u < p.users = rw same.users h in rw (← (same.view u l), ← (same.writes u l)) (valid.sound u l)
 
 pub rules_alike : RulesAlike
 rules_alike p q n most limit s calls same valid = responses_alike p q n most same valid limit s calls

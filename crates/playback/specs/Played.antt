@@ -9,7 +9,8 @@ use Rattle.policy.specs.declared.refusal.Refusal.{Refusal}
 use Rattle.policy.specs.declared.refusal.Refusal.TheVariants.{OutOfBounds}
 use Rattle.promises.specs.Traces.{Made, after, purged}
 use Rattle.store.specs.Calls.{opened}
-use Rattle.played.specs.Items.{items_of, ended_of}
+pub use Rattle.played.specs.Items.{end_by}
+use Rattle.played.specs.Items.{items_of}
 use Rattle.playback.specs.Printed.{Audience, lent, lines, heard_by, text}
 use Rattle.played.specs.declared.items.Item.{Item}
 use Rattle.played.specs.declared.items.Item.TheVariants.{Request, NoRequest}
@@ -23,10 +24,6 @@ told_text a bytes = text (heard_by a (lines (rules_in (policy_of bytes)) empty (
 abbrev pub text_by : Audience → Option Refusal → List ℕ → List ℕ
 text_by a (Some why) bytes = []
 text_by a None bytes = told_text a bytes
-
-abbrev pub end_by : Option Refusal → List ℕ → Option Refusal
-end_by (Some why) bytes = Some why
-end_by None bytes = ended_of bytes
 
 -- a policy is refused at the opening; in a trace capacities are at most 64
 abbrev pub opening : List ℕ → Option Refusal

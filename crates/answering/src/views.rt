@@ -6,7 +6,7 @@ ghost use Rattle.answering.specs.Places.{lower, damaged};
 ghost use Rattle.answering.specs.Asked.{versions_in, parts_in};
 
 use crate::held::Held;
-use policy::{ArrayList, Contract};
+use policy::{ArrayList, COMPARTMENTS, Contract};
 use query::LookedAt;
 
 impl<'a> Held<'a> {
@@ -14,7 +14,7 @@ impl<'a> Held<'a> {
     // the list holds, and each caller has to prove that the list is a map.
 
     // The version of each compartment that a contract lets its user see.
-    pub(crate) fn versions(&self, contract: &Contract) -> ArrayList<u64, 16>
+    pub(crate) fn versions(&self, contract: &Contract) -> ArrayList<u64, COMPARTMENTS>
         ensures { result.items ≡ versions_in self.now.policy.now self.now.memory.now (view_of contract.now) }
     {
         let mut versions = ArrayList::new(0);
@@ -37,7 +37,7 @@ impl<'a> Held<'a> {
     }
 
     // Lends the rows of each compartment that is looked at, and of no other.
-    pub(crate) fn lend(&self, looked: &LookedAt) -> ArrayList<&'a [u64], 16>
+    pub(crate) fn lend(&self, looked: &LookedAt) -> ArrayList<&'a [u64], COMPARTMENTS>
         ensures { map (λ x. x.now) result.items ≡ parts_in self.now.policy.now self.now.memory.now (places_of looked.now) }
     {
         let mut parts = ArrayList::new(&[][..]);

@@ -10,14 +10,14 @@ impl<'a> Held<'a> {
     pub(crate) fn version_at(&self, compartment: u64) -> u64
         ensures { result ≡ version_at self.now.policy.now self.now.memory.now compartment }
     {
-        match self.policy.place(compartment) {
-            Some(Place { start, .. }) => self.memory[start],
-            None => 0,
-        }
+        self.policy
+            .place(compartment)
+            .map_or(0, |place| self.memory[place.start])
     }
 
     // The rows, and never more than there is room for.
-    // A compartment is cut out of memory here and below, and in `store`: a public method of `Place` would need a `requires` that its end is a number.
+    // A compartment is cut out of memory here and below, and in `store`: a method of `Place` would need a `requires` that its end is a number,
+    // and one of `Held` that the place is the policy's.
     #[tactic(auto, using(crate::proofs::Parts::rows_in_part))]
     pub(crate) fn rows_at(&self, compartment: u64) -> &'a [u64]
         ensures { result.now ≡ part_at self.now.policy.now self.now.memory.now compartment }

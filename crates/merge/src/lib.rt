@@ -11,6 +11,7 @@ pub mod laws;
 
 // Rows in memory: where they begin, and how many they are.
 // By place and number, not as a slice: one lent memory holds the rows that are read and those that are written.
+// Where they end is said at each place: a function for it would need a `requires`, that the end is a number, in every caller.
 #[derive(Clone, Copy, PartialEq, Eq, Debug)]
 pub struct Part {
     pub start: usize,
@@ -101,7 +102,7 @@ pub fn merge_into(memory: &mut [u64], copying: Copying) -> bool
     true
 }
 
-// Whether some rows lie within a memory.
+// Whether some rows lie within a memory. By numbers: of four that are asked for two are no `Part`, but the rows that there are to be.
 fn lies_within(start: usize, rows: usize, len: usize) -> bool
     ensures { result ≡ lies_within start rows len }
 {

@@ -11,7 +11,7 @@ use crate::names::{Name, Verb};
 // Any larger number counts as this one, which is out of all bounds.
 const TOO_LARGE: u64 = 0x1_0000_0000;
 
-// Spaces, tabs and carriage returns.
+// Spaces, tabs and carriage returns; `is_ascii_whitespace` takes line and form feeds too.
 fn is_blank(byte: u8) -> bool
     ensures { result ≡ blank byte }
 {

@@ -32,7 +32,8 @@ fn push_compartment<F: Form>(
     ensures { OnOk result (string_bytes text.new ≡ string_bytes text.old ++ compartment_bytes F.shape (rules_of policy.now) policy.now.compartments from capacity) }
 {
     F::push_compartment(text, from, capacity)?;
-    // The range indexes nothing: form and policy are asked of each pair of compartments.
+    // The range indexes nothing: form and policy are asked of each pair of compartments. A compartment's place among the places is its number,
+    // a `usize` here and a `u64` where the policy is asked.
     for to in 0..policy.places().len() {
         if F::shows(from, to) && policy.may_flow(from as u64, to as u64) {
             F::push_flow(text, from, to)?;

@@ -14,9 +14,8 @@ use std::alloc::AllocError;
 use std::io;
 use std::process::ExitCode;
 pub use stop::Stop;
-
 // The largest capacity in a trace.
-pub const MOST: u64 = wire::CAPACITY;
+pub use wire::CAPACITY as MOST;
 
 // What is printed of a trace, and why it was refused or broken off, if it was.
 #[derive(Debug, Drop)]

@@ -47,7 +47,7 @@ pub fn position(rows: &[u64], key: u64) -> usize
     halve(rows, key)
 }
 
-// The halving itself, apart since its loop has a proof file; by hand: `partition_point` says where it comes out for rows that rise only.
+// The halving itself, apart, so that `position` stands on a contract and on no proof of a loop; by hand: `partition_point` says where it comes out for rows that rise only.
 fn halve(rows: &[u64], key: u64) -> usize
     ensures value { result ≡ position key rows.now }
     ensures within { 2 * result ≤ length rows.now }

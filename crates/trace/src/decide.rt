@@ -42,7 +42,7 @@ fn answer(policy: &Policy, user: usize, query: Query) -> Words
     match query {
         Query::Rows { .. } | Query::Total { .. } => Words::Undecided,
         Query::Shared { a, b, .. } => {
-            // `query` asks the same of a contract; here none is at hand, and the policy is asked for the user.
+            // By user and policy, as the rules say it: `query::sees_both` takes a contract, and the contract here would have to say whose it is.
             if policy.sees(user, a) && policy.sees(user, b) {
                 Words::Undecided
             } else {

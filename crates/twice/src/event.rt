@@ -42,7 +42,7 @@ pub(crate) enum Event {
 
 pub(crate) const EVENTS: usize = 34;
 
-// In the order in which they are told.
+// In the order in which they are told; no derive lists the cases of an enum.
 pub(crate) const ALL: [Event; EVENTS] = [
     Event::Trace,
     Event::OneUser,

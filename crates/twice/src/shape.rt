@@ -53,8 +53,8 @@ impl Shape {
         heap: Global,
     ) -> Result<Vec<u64>, AllocError> {
         let mut numbers = Vec::new(heap);
-        numbers.push(self.users as u64)?;
-        numbers.push(self.compartments as u64)?;
+        numbers.push(u64::from(self.users))?;
+        numbers.push(u64::from(self.compartments))?;
         self.push_contracts(&mut numbers, random, heap)?;
         self.push_capacities(&mut numbers, random)?;
         Ok(numbers)
@@ -72,7 +72,7 @@ impl Shape {
             numbers.push(view.len() as u64)?;
             view.resize(COMPARTMENTS as usize, 0)?;
             numbers.extend_from_slice(view.as_slice())?;
-            numbers.push(writes as u64)?;
+            numbers.push(u64::from(writes))?;
         }
         Ok(())
     }
@@ -94,7 +94,7 @@ impl Shape {
         for i in 0..COMPARTMENTS {
             let compartment = first.wrapping_add(step.wrapping_mul(i)) % COMPARTMENTS;
             if self.sees(random, writes, compartment) {
-                view.push(compartment as u64)?;
+                view.push(u64::from(compartment))?;
             }
         }
         Ok(view)
@@ -124,7 +124,7 @@ impl Shape {
     ) -> Result<(), AllocError> {
         for _ in 0..self.compartments {
             let capacity = self.capacity(random);
-            numbers.push(capacity as u64)?;
+            numbers.push(u64::from(capacity))?;
         }
         Ok(())
     }

@@ -7,6 +7,7 @@ use crate::USERS;
 use std::fmt;
 
 impl Refusal {
+    // By a match: two cases share 4, and cases with fields have no numbers of their own.
     pub fn number(self) -> u64
         ensures { result ≡ number_of self }
     {

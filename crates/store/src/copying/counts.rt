@@ -1,4 +1,4 @@
-// How many rows the two compartments of a copy have.
+// How many rows the two compartments of a copy have, by name: a pair would not say which is which.
 
 #[derive(Clone, Copy)]
 pub struct Counts {

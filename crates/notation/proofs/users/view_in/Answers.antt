@@ -18,6 +18,3 @@ returns-in_err-number-clause-value c =
 pub loop-place-preserved : goal.loop-place-preserved
 loop-place-preserved c =
     viewed_more _ _ _ c.loop-place.invariant c.loop-place-test.true (sym c.if-is_named.ensures) _ c.push.new.self.items (sym c.in_ok-number.ensures) c.push.ensures.list
-
-pub returns-clause-value : goal.returns-clause-value
-returns-clause-value c = viewed_full _ _ _ c.loop-place.invariant (omega (arith, c.loop-place.auto.place-end))

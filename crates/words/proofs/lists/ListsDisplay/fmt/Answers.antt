@@ -23,10 +23,3 @@ loop-count-preserved g c =
             led_on list_bytes done.0 l.blank.now list (split (drop (l.count-index + 1) counts) (map pair_row c.split_at.result.1.now)) (rw here at done.2),
           ),
     )
-
-pub returns-clause-writes : goal.returns-clause-writes
-returns-clause-writes g c = λ plain ok.
-    let done = c.loop-count.invariant.1 plain in
-    let left = split (drop c.loop-count.count-index c.args.self.now.counts.now) (map pair_row c.loop-count.left.now) in
-    let none : left ≡ [] = rw (drop_all c.loop-count.count-index c.args.self.now.counts.now c.loop-count-test.false) refl in
-    has_written_of_eq _ _ _ _ _ (led_none list_bytes done.0 c.loop-count.blank.now left none done.2) done.1

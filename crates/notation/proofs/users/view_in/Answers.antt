@@ -1,7 +1,7 @@
 -- The loop ends where the line says no more, or its number is none, or the view is full.
-use Rattle.std.proofs.Common.{sym, arith}
+use Rattle.std.proofs.Common.{sym}
 use Rattle.std.proofs.lemmas.Result.{err_from_is_err_and}
-use Rattle.notation.proofs.Viewing.{viewed_none, viewed_full, viewed_done, viewed_err, viewed_more}
+use Rattle.notation.proofs.Viewing.{viewed_none, viewed_done, viewed_err, viewed_more}
 use Rattle.notation.proofs.users.view_in.Goals as goal
 
 pub loop-place-init : goal.loop-place-init

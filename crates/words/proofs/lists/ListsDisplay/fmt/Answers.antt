@@ -1,12 +1,11 @@
 -- Each turn writes one of the lists that are left.
-use Rattle.std.proofs.Common.{◌≡◌, ◌+◌, [], ◌++◌, map, drop, rules, refl}
+use Rattle.std.proofs.Common.{◌+◌, ◌++◌, map, drop, rules}
 use Rattle.query.specs.Numbers.{split}
-use Rattle.std.proofs.lemmas.List.{drop_all}
-use Rattle.std.proofs.Output.{has_written_append, has_written_of_eq}
+use Rattle.std.proofs.Output.{has_written_append}
 use Rattle.rows.specs.Halving.{pair_row}
 use Rattle.words.specs.Words.{list_bytes}
 use Rattle.words.proofs.Pairs.{split_on}
-use Rattle.words.proofs.Turns.{led_on, led_none}
+use Rattle.words.proofs.Turns.{led_on}
 use Rattle.words.proofs.lists.ListsDisplay.fmt.Goals as goal
 
 pub loop-count-preserved : goal.loop-count-preserved

@@ -26,12 +26,6 @@ one_on n view (Ok cs) = ap (λ (v : List ℕ). Ok v) (sym (append_assoc view (n 
 one_on n view (Err e) = refl
 
 module _ (line view : List ℕ) (place : ℕ) (v : Viewed line view place) where
-  pub viewed_full : place ≡ 19 → Ok view ≡ view_from 16 line 3
-  viewed_full h =
-      let none : 19 - place ≡ 0 = omega arith in
-      let whole = rw none at v.whole in
-      ap (λ (cs : List ℕ). Ok cs) (sym (append-nil view)) ∙ whole
-
   module _ (low : place < 19) where
     more : 19 - place ≡ suc (19 - (place + 1))
     more = omega arith

@@ -1,5 +1,4 @@
 -- The lemmas of this crate.
-pub mod Relevance
 pub mod Bounded
 pub mod Whole
 pub mod Opened

@@ -1,6 +1,5 @@
 -- Lemmas on what memory holds.
 pub mod Within
-pub mod Parts
 pub mod Tied
 pub mod Refused
 pub mod Resting

@@ -16,17 +16,14 @@ impl<'a> Held<'a> {
     }
 
     // The rows, and never more than there is room for.
-    // A compartment is cut out of memory here and below, and in `store`: a method of `Place` would need a `requires` that its end is a number,
-    // and one of `Held` that the place is the policy's.
-    #[tactic(auto, using(crate::proofs::Parts::rows_in_part))]
+    // Not by `compartment::rows_of`, which would judge the number of rows once more: nothing is checked twice on a path.
     pub(crate) fn rows_at(&self, compartment: u64) -> &'a [u64]
         ensures { result.now ≡ part_at self.now.policy.now self.now.memory.now compartment }
     {
         match self.policy.place(compartment) {
             Some(Place { start, capacity }) => {
-                let part = &self.memory[start..start + 2 + 2 * capacity];
-                let count = part[1].min(capacity as u64) as usize;
-                compartment::rows_of(part, count)
+                let count = self.memory[start + 1].min(capacity as u64) as usize;
+                &self.memory[start + 2..start + 2 + 2 * count]
             }
             None => &[],
         }
@@ -34,6 +31,7 @@ impl<'a> Held<'a> {
 
     // Where the version or the number of rows is out of bounds, if one is: the lower place.
     // Not as the refusal in which it comes: of several places the lowest is wanted, and refusals have no order.
+    // `store` cuts the same numbers out of memory: a public method of `Place` would need a `requires` that its end is a number.
     pub(crate) fn fault_at(&self, compartment: u64) -> Option<usize>
         ensures { result ≡ fault_at self.now.policy.now self.now.memory.now compartment }
     {

@@ -1,11 +1,11 @@
 // Why playing stops before the end of a trace.
-// `notation::ReadError` is such a type too; one generic over the error would have two `From`s that overlap, of any error and of `AllocError`.
 ghost use Rattle.std.specs.Prelude.{◌≡◌};
 ghost use Rattle.played.specs.declared.stop.Stop.TheVariants.{Refused, OutOfMemory};
 
 use policy::Refusal;
 use std::alloc::AllocError;
 
+// `notation::ReadError` is such a type too; one generic over the error would have two `From`s that overlap, of any error and of `AllocError`.
 #[derive(Clone, Copy, PartialEq, Eq, Debug)]
 pub enum Stop {
     // The policy is refused, memory is too short, or a request is none.

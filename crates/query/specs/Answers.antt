@@ -1,5 +1,5 @@
 -- What a query answers and what answering costs, over a view and the rows of each compartment.
--- Recursions are written out, so that what is to be believed needs no other page; std's `map`, `filter` and `sum_by` would say the same.
+-- Recursions are written out, so that what is to be believed needs no other page; std's `map` and `sum_by` would say the same.
 use Rattle.std.specs.Prelude.{ℕ, ◌+◌, Bool, false, cond, ◌&&◌, List, [], ◌∷◌, length, ◌==◌}
 use Rattle.rows.specs.declared.Row.{Row}
 use Rattle.rows.specs.declared.KeyRange.{KeyRange}

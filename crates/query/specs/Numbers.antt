@@ -1,5 +1,5 @@
 -- What a query makes of the parts that it is lent and of the answer row, for every content, of rows that rise or not.
--- Recursions are written out, so that what is to be believed needs no other page; std's `map`, `filter` and `sum_by` would say the same.
+-- Sums are written out, so that what is to be believed needs no other page; std's `sum_by` would say the same.
 use Rattle.std.specs.Prelude.{ℕ, ◌+◌, ◌/◌, ◌%◌, ◌^◌, Bool, cond, ◌&&◌, List, [], ◌∷◌, ◌++◌, map, length, take, drop, replicate, Some, None, Option, nat_le}
 use Rattle.std.specs.List.{flat_map}
 use Rattle.rows.specs.declared.Row.{Row}

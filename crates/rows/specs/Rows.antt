@@ -1,5 +1,5 @@
 -- Rows by rising key as plain lists: what each operation means, said without memory and without halving.
--- Recursions are written out, so that what is to be believed needs no other page; std's `map`, `filter` and `sum_by` would say the same.
+-- Recursions are written out, so that what is to be believed needs no other page, though std has some of them (`filter`, `list_any`, `count_by`, `sum_by`).
 use Rattle.std.specs.Prelude.{ℕ, suc, ◌+◌, ◌^◌, ◌<◌, ◌≤◌, Bool, false, cond, ◌&&◌, ◌||◌, List, [], ◌∷◌, Some, None, Option, ◌==◌, nat_le, nat_lt}
 use Rattle.rows.specs.declared.Row.{Row}
 use Rattle.rows.specs.declared.KeyRange.{KeyRange}

@@ -40,7 +40,7 @@ where
     F: FnOnce(Global, &Policy) -> Result<String, AllocError>,
     requires { F.IsAlwaysCallable overview }
 {
-    // A policy goes through no `?`: in a function that uses no `Contract` this is not proved (tried in `trace`).
+    // A policy goes through no `?`: in a function that uses no `Contract` this is not proved (tried).
     match Policy::read(numbers, 64) {
         Ok(policy) => Ok(overview(heap, &policy)?),
         Err(refusal) => Err(Fail::from(refusal)),

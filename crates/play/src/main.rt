@@ -4,9 +4,8 @@
 use std::io::{self, Read};
 use std::process::ExitCode;
 
-// The same three lines stand in `play_all`, over `playback`: one function for both would be public and take what plays as a
-// closure, and no public function here requires anything. The two that read stand in five programs: std says nothing of which
-// bytes stand on standard input, so a public function of them would promise nothing.
+// The two lines that read stand in four programs: std says nothing of which bytes stand on standard input, so a public function of
+// them would promise nothing.
 fn main(rt: HostRuntime) -> io::Result<ExitCode> {
     let mut bytes = Vec::new(rt.alloc());
     rt.stdin().read_to_end(&mut bytes)?;

@@ -15,11 +15,11 @@ fn main(rt: HostRuntime) -> io::Result<ExitCode> {
         eprintln!(rt; "usage: play_for USER < TRACE (USER from 0 to 255)")?;
         return Ok(ExitCode::FAILURE);
     };
-    // The two lines that read stand in five programs, for the reason that stands in `play`.
+    // The two lines that read stand in four programs, for the reason that stands in `play`.
     let mut bytes = Vec::new(rt.alloc());
     rt.stdin().read_to_end(&mut bytes)?;
     let mut memory = [0; MEMORY];
-    let played = playback::play_for(rt.alloc(), &mut memory, user as usize, bytes.as_slice())?;
+    let played = trace::play_for(rt.alloc(), &mut memory, user as usize, bytes.as_slice())?;
     played.tell(&rt)
 }
 

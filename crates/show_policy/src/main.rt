@@ -34,7 +34,7 @@ where
     F: FnOnce(Global, &Policy) -> Result<String, AllocError>,
     requires { F.IsAlwaysCallable overview }
 {
-    // The two lines that read stand in five programs, for the reason that stands in `play`.
+    // The two lines that read stand in four programs, for the reason that stands in `play`.
     let mut bytes = Vec::new(rt.alloc());
     rt.stdin().read_to_end(&mut bytes)?;
     match wire::read_policy(bytes.as_slice(), wire::CAPACITY) {

@@ -1,2 +1,5 @@
--- Lemmas on the lines of a trace.
-pub mod Sameness
+-- The lemmas of this crate.
+pub mod Bounded
+pub mod Whole
+pub mod Opened
+pub mod Sufficient

@@ -1,4 +1,5 @@
 -- What the contracts of this crate cite.
-pub mod Lines
-pub mod Decided
+pub mod Printed
+pub mod Along
 pub mod Played
+pub mod Enough

@@ -1,39 +1,70 @@
--- What playing a trace prints, and how it ends.
-use Rattle.std.specs.Prelude.{ℕ, List, [], Some, None, Option}
-use Rattle.std.specs.List.{flat_map}
-use Rattle.played.specs.Items.{from, items_of}
-use Rattle.played.specs.declared.items.Item.{Item}
-use Rattle.played.specs.declared.items.Item.TheVariants as item
-use Rattle.policy.specs.Rules.{Rules}
-use Rattle.policy.specs.Numbers.{judged, rules_in}
+-- What playing a trace prints and leaves, and how it ends.
+use Rattle.std.specs.Prelude.{◌≡◌, ℕ, ◌+◌, ◌*◌, cond, List, [], filter_map, take, drop, replicate, Some, None, Option, nat_lt}
+use Rattle.model.specs.Model.{empty}
+use Rattle.policy.specs.Layout.{end_from}
+use Rattle.policy.specs.Numbers.{judged, rules_in, users_in, compartments_in, user_at}
+use Rattle.policy.specs.Read.{Reads}
+use Rattle.policy.specs.declared.Policy.{Policy}
 use Rattle.policy.specs.declared.refusal.Refusal.{Refusal}
-use Rattle.trace.specs.Decided.{decided}
-use Rattle.trace.specs.Lines.{line}
-use Rattle.trace.specs.declared.words.Words.{Words}
-use Rattle.trace.specs.declared.words.Words.TheVariants.{NoRequest}
+use Rattle.policy.specs.declared.refusal.Refusal.TheVariants.{OutOfBounds}
+use Rattle.promises.specs.Traces.{Made, after, purged}
+use Rattle.store.specs.Calls.{opened}
 pub use Rattle.played.specs.Items.{end_by}
-pub use Rattle.wire.specs.PolicyNumbers.{policy_of}
+use Rattle.played.specs.Items.{items_of}
+use Rattle.trace.specs.Printed.{Audience, lent, lines, heard_by, text}
+use Rattle.played.specs.declared.items.Item.{Item}
+use Rattle.played.specs.declared.items.Item.TheVariants.{Request, NoRequest}
+use Rattle.wire.specs.PolicyNumbers.{policy_of}
 
--- what is told of an item; what is no request is told too
-abbrev pub told : Rules → Item → Words
-told p (item.Request r) = decided p r
-told p (item.NoRequest user place) = NoRequest place
+-- what the whole trace tells a user, or everyone: the lines that the model gives from an empty store
+abbrev pub told_text : Audience → List ℕ → List ℕ
+told_text a bytes = text (heard_by a (lines (rules_in (policy_of bytes)) empty (items_of bytes)))
 
--- its line
-abbrev pub turn : Rules → Item → List ℕ
-turn p i = line (from i) (told p i)
+-- nothing is printed of a trace that is refused at its opening
+abbrev pub text_by : Audience → Option Refusal → List ℕ → List ℕ
+text_by a (Some why) bytes = []
+text_by a None bytes = told_text a bytes
 
--- all that is printed
-abbrev pub lines : Rules → List Item → List ℕ
-lines p is = flat_map (turn p) is
+-- a policy is refused at the opening; in a trace capacities are at most 64
+abbrev pub opening : List ℕ → Option Refusal
+opening bytes = judged 64 (policy_of bytes)
 
-abbrev pub text_by : Option Refusal → List ℕ → List ℕ
-text_by (Some why) bytes = []
-text_by None bytes = lines (rules_in (policy_of bytes)) (items_of bytes)
-
--- what a trace prints: nothing where its policy is refused
 abbrev pub text_of : List ℕ → List ℕ
-text_of bytes = text_by (judged 64 (policy_of bytes)) bytes
+text_of bytes = text_by None (opening bytes) bytes
 
 abbrev pub end_of : List ℕ → Option Refusal
-end_of bytes = end_by (judged 64 (policy_of bytes)) bytes
+end_of bytes = end_by (opening bytes) bytes
+
+-- how much memory the policy of these numbers asks for
+abbrev pub memory_for : List ℕ → ℕ
+memory_for xs = end_from 0 (take (compartments_in xs) (drop (user_at (users_in xs)) xs)) + 192 * users_in xs
+
+-- lent memory may be too short
+abbrev pub short_of : ℕ → List ℕ → Option Refusal
+short_of long bytes = cond (nat_lt long (memory_for (policy_of bytes))) (Some (OutOfBounds long)) None
+
+abbrev pub opening_by : Option Refusal → ℕ → List ℕ → Option Refusal
+opening_by (Some why) long bytes = Some why
+opening_by None long bytes = short_of long bytes
+
+abbrev pub opening_with : ℕ → List ℕ → Option Refusal
+opening_with long bytes = opening_by (opening bytes) long bytes
+
+-- an item that is a request, with an answer row
+abbrev pub made : Item → Option Made
+made (Request r) = Some (record { request = r; row = replicate lent 0 })
+made (NoRequest user place) = None
+
+-- the requests among items
+abbrev pub made_in : List Item → List Made
+made_in is = filter_map made is
+
+-- memory afterwards is what the requests that are relevant to the user leave of an empty one, and no others
+pub record Purged (v : ℕ) (bytes before now : List ℕ) : Type 0 where
+  pub policy : Policy
+  pub reads : Reads (policy_of bytes) policy
+  pub left : now ≡ after policy (opened policy before) (purged policy v (made_in (items_of bytes)))
+
+abbrev pub LeftBy : Option Refusal → ℕ → List ℕ → List ℕ → List ℕ → Type 0
+LeftBy (Some why) v bytes before now = now ≡ before
+LeftBy None v bytes before now = Purged v bytes before now

@@ -1,39 +1,43 @@
-// Playing a trace: what each user is told, line by line, and how the trace ended.
+// Playing a trace, for everyone or purged for one user: what is told, line by line, and how the trace ended.
 #![tactic(auto)]
 
-ghost use Rattle.std.specs.Prelude.{◌≡◌, ◌++◌, IfOk, string_bytes};
-ghost use Rattle.played.specs.Ended.{EndsBy, UnlessMemory};
-ghost use Rattle.trace.specs.Played.{text_of, end_of};
+ghost use Rattle.std.specs.Prelude.{◌≡◌, length, Some, IfOk, string_bytes, OnOk};
+ghost use Rattle.trace.specs.Played.{text_by, text_of, end_by, end_of, opening_with, LeftBy};
 
-mod decide;
-mod lines;
-mod words;
+mod concerns;
+pub mod laws;
+mod opening;
+mod turns;
 
-use lines::play_items;
+use opening::{play_everyone, play_one};
 pub use played::Played;
-use played::{Items, MOST, Stop};
 use std::alloc::{AllocError, Global};
-pub use words::Words;
 
-// Plays the trace in the bytes.
+// `play` and `play_for` share three lines: one function for both would be public and take what plays as a closure, and no public
+// function here requires anything.
+
+// Plays the trace in the bytes for everyone.
 pub fn play(heap: Global, bytes: &[u8]) -> Result<Played, AllocError>
-    ensures text { IfOk result (λ p. string_bytes p.text ≡ text_of bytes.now) }
-    ensures end { IfOk result (λ p. p.refused ≡ end_of bytes.now) }
+    ensures text { IfOk result (λ x. string_bytes x.text ≡ text_of bytes.now) }
+    ensures end { IfOk result (λ x. x.refused ≡ end_of bytes.now) }
 {
-    // `playback` has the same three lines twice: one function for all would be public and take what plays as a closure, and no
-    // public function here requires anything.
     let mut text = String::new(heap);
-    let end = play_into(&mut text, bytes);
+    let end = play_everyone(heap, &mut text, bytes);
     Played::new(text, end)
 }
 
-fn play_into(text: &mut String, bytes: &[u8]) -> Result<(), Stop>
-    ensures text { UnlessMemory result (string_bytes text.new ≡ string_bytes text.old ++ text_of bytes.now) }
-    ensures end { EndsBy result (end_of bytes.now) }
+// Plays only what is relevant to one user, in lent memory; and what they are told is what the whole trace tells them.
+pub fn play_for(
+    heap: Global,
+    memory: &mut [u64],
+    user: usize,
+    bytes: &[u8],
+) -> Result<Played, AllocError>
+    ensures text { IfOk result (λ x. string_bytes x.text ≡ text_by (Some user) (opening_with (length memory.old) bytes.now) bytes.now) }
+    ensures end { IfOk result (λ x. x.refused ≡ end_by (opening_with (length memory.old) bytes.now) bytes.now) }
+    ensures after { OnOk result (LeftBy (opening_with (length memory.old) bytes.now) user bytes.now memory.old memory.new) }
 {
-    // A policy goes through no `?` and no `map_err`: in a function that uses no `Contract` this is not proved (both tried in `trace`).
-    match wire::read_policy(bytes, MOST) {
-        Ok(policy) => play_items(text, &policy, Items::of(bytes)),
-        Err(refusal) => Err(refusal.into()),
-    }
+    let mut text = String::new(heap);
+    let end = play_one(&mut text, memory, user, bytes);
+    Played::new(text, end)
 }

@@ -24,7 +24,7 @@ impl Trace {
     pub(crate) fn random(random: &mut Random, heap: Global) -> anyhow::Result<Trace> {
         let shape = Shape::random(random);
         let numbers = shape.numbers(random, heap)?;
-        // A policy goes through no `?`: in a function that uses no `Contract` this is not proved (tried in `trace`).
+        // A policy goes through no `?`: in a function that uses no `Contract` this is not proved (tried).
         let Ok(policy) = Policy::read(numbers.as_slice(), u64::from(CAPACITY)) else {
             return Err(anyhow!("a random policy was refused"));
         };

@@ -10,7 +10,7 @@ use std::process::ExitCode;
 mod texts;
 
 fn main(rt: HostRuntime) -> io::Result<ExitCode> {
-    // The two lines that read stand in five programs, for the reason that stands in `play`.
+    // The two lines that read stand in four programs, for the reason that stands in `play`.
     let mut text = Vec::new(rt.alloc());
     rt.stdin().read_to_end(&mut text)?;
     match notation::read(rt.alloc(), text.as_slice()) {

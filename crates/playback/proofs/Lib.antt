@@ -1,5 +1,0 @@
--- The lemmas of this crate.
-pub mod Bounded
-pub mod Whole
-pub mod Opened
-pub mod Sufficient

@@ -1,13 +1,14 @@
 -- The traces compute.
-use Rattle.std.proofs.Common.{◌≡◌, List, [], ◌∷◌, sym, refl, ◌∙◌, arith}
+use Rattle.std.proofs.Common.{◌≡◌, ℕ, List, [], ◌∷◌, sym, refl, ◌∙◌, ◌==◌, inl, inr, arith}
+use Rattle.std.proofs.lemmas.Bool.{cases_Bool, true≢false, or_left}
 use Rattle.policy.specs.Rules.{Rules}
 use Rattle.query.specs.declared.Query.TheVariants.{Total}
 use Rattle.query.specs.Answers.{total, answer}
 use Rattle.request.specs.declared.Request.{Request}
 use Rattle.request.specs.declared.Request.TheVariants.{Write}
 use Rattle.model.specs.Example.{three}
-use Rattle.model.specs.Model.{State, Response, answered}
-use Rattle.talking.specs.Frame.{Machine}
+use Rattle.model.specs.Model.{State, Call, Response, answered, empty, who, relevant, purge}
+use Rattle.talking.specs.Frame.{Machine, told_from}
 use Rattle.talking.specs.Talks.{calls, row, digits}
 use Rattle.useless.specs.Statements.{after, examined, RightAnswers}
 use Rattle.useless.specs.Stores as stores
@@ -26,8 +27,24 @@ answered_wrongly : (m : Rules → Machine State) (before : List Request) {is due
     told_after m three before ask ≡ is → due_after m before ≡ due → (is ≡ due → ⊥) → Fails (RightAnswers m) (told_after m three before ask) is due
 answered_wrongly m before e f d = refuted e (λ h. h three (calls before) 0 (Total digits) 100 (omega arith) (omega arith) ∙ f) d
 
+-- what a store that refuses everything tells hangs on the requests of the user alone, in every state
+silent : (p : Rules) (v : ℕ) (s : State) (calls : List Call) →
+    told_from (stores.refuses_all p) v s (purge p v calls) ≡ told_from (stores.refuses_all p) v s calls
+silent p v s [] = refl
+silent p v s (call ∷ rest) = elim (cases_Bool (relevant p v call)) [
+  | inl r ↦ rw (r, silent p v s rest) refl
+  | inr r ↦ elim (cases_Bool (who call.request == v)) [
+    | inl e ↦ absurd (true≢false (sym (or_left _ _ e) ∙ r))
+    | inr e ↦ rw (r, e, silent p v s rest) refl
+  ]
+]
+
 pub refuses_all : useless.RefusesAllUseless
-refuses_all = (answered_wrongly stores.refuses_all [] refl refl (λ e. cc), refuted refl (λ h. h three [] 0 (row 5) 100) (λ e. cc))
+refuses_all = (
+  answered_wrongly stores.refuses_all [] refl refl (λ e. cc),
+  refuted refl (λ h. h three [] 0 (row 5) 100) (λ e. cc),
+  λ p v calls sound. silent p v empty calls,
+)
 
 pub refuses_writes : useless.RefusesWritesUseless
 refuses_writes = refuted refl (λ h. h three [] 0 (row 5) 100) (λ e. cc)

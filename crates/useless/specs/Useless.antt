@@ -9,7 +9,7 @@ use Rattle.request.specs.declared.Request.{Request}
 use Rattle.request.specs.declared.Request.TheVariants.{Write, Copy, Query as Ask}
 use Rattle.model.specs.Example.{three, most}
 use Rattle.model.specs.Model.{State, lend, Response, done, refused, answered}
-use Rattle.talking.specs.Frame.{Machine}
+use Rattle.talking.specs.Frame.{Machine, Noninterfering}
 use Rattle.talking.specs.Talks.{calls, row, digits}
 use Rattle.useless.specs.Statements.{tells, then, RightAnswers, Again, WriteTold, CopyTold, WriteEffect, CopyEffect}
 use Rattle.useless.specs.Stores.{refuses_all, refuses_writes, refuses_copies, any_flow, says_done, copies_nothing, answers_nothing, none_examined, no_cache, keeps, stale_answers}
@@ -32,11 +32,12 @@ maps_after m p before request compartment key = amount_of key ((then m p (calls 
 abbrev pub ask : Request
 ask = Ask 0 (Total digits)
 
--- Nobody is answered, and no write is done.
+-- Nobody is answered, and no write is done; and yet noninterference holds, so that it is not enough alone.
 abbrev pub RefusesAllUseless : Type 0
 RefusesAllUseless =
     Fails (RightAnswers refuses_all) (told_after refuses_all three [] ask) (refused (NoUser 0)) (answered (total 0 0) 0)
     × Fails (WriteTold most refuses_all) (told_after refuses_all three [] (Write 0 (row 5))) (refused (NoUser 0)) done
+    × Noninterfering refuses_all
 
 -- The compartment has room for three rows.
 abbrev pub RefusesWritesUseless : Type 0

@@ -21,7 +21,7 @@ use Rattle.std.proofs.lemmas.Bool.{cases_Bool, cases_lt, and_parts, ltb-true}
 use Rattle.store.specs.Simulation.{Holds}
 use Rattle.promises.specs.Contents.{Reached}
 use Rattle.promises.specs.Effects.{Order, WriteTold, DeleteTold, CopyTold, ChangedOnce, WriteEffect, DeleteEffect, CopyEffect, OnlyOwn, OnlyWriters, Again, AbsentUsers, NotSeen, ShortRows}
-use Rattle.promises.specs.Traces.{possible, leaves}
+use Rattle.promises.specs.Traces.{Typed, leaves}
 use Rattle.promises.proofs.Contents.{rows_held, version_held, no_rows, no_version, rows_stay, version_stays, cache_stays, calls, state, reached}
 use Rattle.promises.proofs.Proved.{Steps, steps}
 use Rattle.promises.proofs.Refused.{refusals_change_nothing}
@@ -35,7 +35,7 @@ order p memory c r = elim (cases_lt c p.compartments) [
 ]
 
 -- one request on memory as requests leave it
-step_on : (p : Policy) (memory : List ℕ) (r : Reached p memory) (request : Request) (lent : List ℕ) → possible request →
+step_on : (p : Policy) (memory : List ℕ) (r : Reached p memory) (request : Request) (lent : List ℕ) → Typed request →
     Steps p (state p memory r) memory (record { request = request; row = lent })
 step_on p memory r request lent b = steps p (state p memory r) memory request lent (reached p memory r) b
 

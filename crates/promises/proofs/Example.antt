@@ -16,7 +16,7 @@ use Rattle.store.specs.Calls.{opened}
 use Rattle.store.specs.Simulation.{Holds}
 use Rattle.store.proofs.Following.{open_holds}
 use Rattle.promises.specs.Example.{numbers, all_told, Worked}
-use Rattle.promises.specs.Traces.{Made, Possible, possible, call_of, leaves}
+use Rattle.promises.specs.Traces.{Made, Possible, Typed, call_of, leaves}
 use Rattle.promises.proofs.Proved.{steps}
 
 -- along the calls is told what the model tells
@@ -56,14 +56,14 @@ module _ (p : Policy) (r : Reads numbers p) where
   valid_three = subst (λ (n : ℕ). Valid (rules_of p) n 4096) r.compartments (policies_valid p)
 
 -- requests are possible if the model's calls of them are
-all_possible : (made : List Made) (calls : List Call) → map call_of made ≡ calls → AllByRecursion (λ call. possible call.request) calls → AllByRecursion Possible made
-all_possible made calls e a = from made (subst (λ (cs : List Call). AllByRecursion (λ call. possible call.request) cs) (sym e) a)
+all_possible : (made : List Made) (calls : List Call) → map call_of made ≡ calls → AllByRecursion (λ call. Typed call.request) calls → AllByRecursion Possible made
+all_possible made calls e a = from made (subst (λ (cs : List Call). AllByRecursion (λ call. Typed call.request) cs) (sym e) a)
   where
-    from : (ms : List Made) → AllByRecursion (λ call. possible call.request) (map call_of ms) → AllByRecursion Possible ms
+    from : (ms : List Made) → AllByRecursion (λ call. Typed call.request) (map call_of ms) → AllByRecursion Possible ms
     from [] a = tt
     from (m ∷ ms) a = (a.0, from ms a.1)
 
-table_possible : AllByRecursion (λ (call : Call). possible call.request) (calls_of table)
+table_possible : AllByRecursion (λ (call : Call). Typed call.request) (calls_of table)
 table_possible = omega arith
 
 told_on_memory : (p : Policy) (memory : List ℕ) (made : List Made) → Reads numbers p → memory_length p ≤ length memory → map call_of made ≡ calls_of table →

@@ -18,7 +18,7 @@ use Rattle.store.specs.Simulation.{Holds}
 use Rattle.store.proofs.Changing.{apart, fits}
 use Rattle.store.proofs.Parts.{kept_length, part_apart}
 use Rattle.promises.specs.Effects.{EitherOrder}
-use Rattle.promises.specs.Traces.{Made, Possible, possible, call_of, leaves, after}
+use Rattle.promises.specs.Traces.{Made, Possible, Typed, call_of, leaves, after}
 use Rattle.promises.proofs.Contents.{state, reached}
 use Rattle.promises.proofs.Places.{long, absent_leaves, own_there, written_wide, deleted_wide}
 use Rattle.promises.proofs.Proved.{steps}
@@ -73,7 +73,7 @@ effect (Copy u c range) = λ xs. xs
 effect (Ask u query) = λ xs. xs
 
 module _ (p : Policy) (s : State) (memory : List ℕ) (h : Holds p s memory) (r : Request) (lent : List ℕ) (simple : plain r ≡ true)
-    (b : possible r) (t : there (rules_of p) (who r) ≡ true) where
+    (b : Typed r) (t : there (rules_of p) (who r) ≡ true) where
   abbrev place : Place
   place = place_in p ((rules_of p).writes (who r))
 
@@ -90,7 +90,7 @@ module _ (p : Policy) (s : State) (memory : List ℕ) (h : Holds p s memory) (r 
   effect_wide : length (effect r (part place memory)) ≡ end place - place.start
   effect_wide = by r simple b t
     where
-      by : (r : Request) → plain r ≡ true → possible r → there (rules_of p) (who r) ≡ true →
+      by : (r : Request) → plain r ≡ true → Typed r → there (rules_of p) (who r) ≡ true →
           length (effect r (part (place_in p ((rules_of p).writes (who r))) memory)) ≡ end (place_in p ((rules_of p).writes (who r))) - (place_in p ((rules_of p).writes (who r))).start
       by (Write u row) e b t = written_wide p s memory h ((rules_of p).writes u) (own_there p s memory h u t) row b
       by (Delete u key) e b t = deleted_wide p s memory h ((rules_of p).writes u) (own_there p s memory h u t) key

@@ -35,7 +35,7 @@ use Rattle.store.proofs.Copies.{counts_are, plan_are, rows_are, raised_is, fille
 use Rattle.store.proofs.Following.{open_holds}
 use Rattle.store.proofs.Parts.{kept_length}
 use Rattle.promises.specs.Effects.{ButFor, OnePlace, Untouched}
-use Rattle.promises.specs.Traces.{Made, Possible, possible, call_of, leaves, after}
+use Rattle.promises.specs.Traces.{Made, Possible, Typed, call_of, leaves, after}
 use Rattle.promises.proofs.Contents.{state, reached}
 use Rattle.promises.proofs.Effects.{source_there}
 use Rattle.promises.proofs.Proved.{steps}
@@ -81,7 +81,7 @@ module _ (p : Policy) (s : State) (memory : List ℕ) (h : Holds p s memory) whe
   long = le-ltb (length memory) (memory_length p) h.long
 
   -- who isn't there changes nothing
-  pub absent_leaves : (r : Request) (lent : List ℕ) → possible r → there (rules_of p) (who r) ≡ false → leaves p memory r lent ≡ memory
+  pub absent_leaves : (r : Request) (lent : List ℕ) → Typed r → there (rules_of p) (who r) ≡ false → leaves p memory r lent ≡ memory
   absent_leaves r lent b e =
       (refusals_change_nothing p memory r lent (absence r) ((steps p s memory r lent h b).tells_so ∙ absent (rules_of p) limit s r (length lent) e)).0
 
@@ -188,7 +188,7 @@ module _ (p : Policy) (s : State) (memory : List ℕ) (h : Holds p s memory) whe
       let wide : end q - q.start ≡ size q.capacity = omega arith in
       rw wide at (but_for q.start (end q - q.start) memory left (own_within u t) r)
 
-  change_in_place : (r : Request) (lent : List ℕ) → possible r → there (rules_of p) (who r) ≡ true → asks r ≡ false → OwnPart (who r) (leaves p memory r lent)
+  change_in_place : (r : Request) (lent : List ℕ) → Typed r → there (rules_of p) (who r) ≡ true → asks r ≡ false → OwnPart (who r) (leaves p memory r lent)
   change_in_place (Write u row) lent b t a = own_part u _ t (write_replaced u t row b)
   change_in_place (Delete u key) lent b t a = own_part u _ t (delete_replaced u t key)
   change_in_place (Copy u c range) lent b t a = elim (cases_Bool (may_copy (rules_of p) u c)) [
@@ -206,7 +206,7 @@ module _ (p : Policy) (s : State) (memory : List ℕ) (h : Holds p s memory) whe
       let within : cache_start p u + 192 ≤ length memory = omega (arith, h.long) in
       but_for (cache_start p u) 192 memory _ within (ask_replaced u t query lent)
 
-  in_place : (r : Request) (lent : List ℕ) → possible r →
+  in_place : (r : Request) (lent : List ℕ) → Typed r →
       (asks r ≡ false → OwnPart (who r) (leaves p memory r lent)) × (asks r ≡ true → ButFor (cache_start p (who r)) 192 memory (leaves p memory r lent))
   in_place r lent b = elim (cases_Bool (there (rules_of p) (who r))) [
     | inl t ↦ (λ a. change_in_place r lent b t a, λ a. ask_in_place r lent t a)
@@ -221,7 +221,7 @@ module _ (p : Policy) (s : State) (memory : List ℕ) (h : Holds p s memory) whe
         rw rest at (sym (drop-drop (memory_length p - (at + n)) (at + n) left) ∙ (ap (drop (memory_length p - (at + n))) o.behind ∙ drop-drop (memory_length p - (at + n)) (at + n) memory)),
       )
 
-  stays_behind : (r : Request) (lent : List ℕ) → possible r →
+  stays_behind : (r : Request) (lent : List ℕ) → Typed r →
       (length (leaves p memory r lent) ≡ length memory) × (drop (memory_length p) (leaves p memory r lent) ≡ drop (memory_length p) memory)
   stays_behind r lent b = elim (cases_Bool (there (rules_of p) (who r))) [
     | inr t ↦ let e = absent_leaves r lent b t in (ap length e, ap (drop (memory_length p)) e)

@@ -23,7 +23,7 @@ use Rattle.store.proofs.Following.{open_holds, write_follows, delete_follows}
 use Rattle.store.proofs.Copies.{copy_follows}
 use Rattle.store.proofs.Asks.{ask_with_row}
 use Rattle.promises.specs.Promises.{Noninterference, NoninterferenceWithRows, TwoTraces, TwoTracesWithRows, FollowsTheModel, RightAnswers, RightAnswersWithRow}
-use Rattle.promises.specs.Traces.{Made, Possible, possible, Reply, call_of, as_response, as_answer, tells, leaves, after, told_on, replies_on, purged}
+use Rattle.promises.specs.Traces.{Made, Possible, Typed, Reply, call_of, as_response, as_answer, tells, leaves, after, told_on, replies_on, purged}
 
 -- one request: it tells what the model tells, and leaves memory that holds the model's next state
 pub record Steps (p : Policy) (s : State) (memory : List ℕ) (m : Made) : Type 0 where
@@ -52,7 +52,7 @@ change_steps : (p : Policy) (s : State) (call : Call) (told : Result (Unit {0}) 
     (as_response told ≡ response (rules_of p) limit s call) × (row ≡ row_with (response (rules_of p) limit s call) row)
 change_steps p s call told after row f q = (rw f.tells q.back, q.row_stays)
 
-pub steps : (p : Policy) (s : State) (memory : List ℕ) (request : Request) (row : List ℕ) → Holds p s memory → possible request →
+pub steps : (p : Policy) (s : State) (memory : List ℕ) (request : Request) (row : List ℕ) → Holds p s memory → Typed request →
     Steps p s memory (record { request = request; row = row })
 steps p s memory (Write user r) row h b =
     let f = write_follows p s memory user (length row) r h b in

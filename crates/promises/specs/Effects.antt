@@ -24,7 +24,7 @@ use Rattle.store.specs.Calls.{opened}
 use Rattle.store.specs.Served.{served_row}
 use Rattle.store.specs.Simulation.{cache_start}
 use Rattle.promises.specs.Contents.{rows_at, version_at, cache_of, Reached}
-use Rattle.promises.specs.Traces.{Made, Possible, possible, tells, leaves, after}
+use Rattle.promises.specs.Traces.{Made, Possible, Typed, tells, leaves, after}
 
 -- ORDER. Rows rise by key, so that each key stands once, and are no more than the capacity; and a version is below 2^40.
 abbrev pub Order : Type 0
@@ -116,7 +116,7 @@ pub record OnlyOwn (p : Policy) (r : Request) (memory left : List ℕ) : Type 0 
   pub change_cache : asks r ≡ false → (u : ℕ) → u < p.users → cache_of p left u ≡ cache_of p memory u
 
 abbrev pub OnlyWriters : Type 0
-OnlyWriters = (p : Policy) (memory : List ℕ) (r : Request) (lent : List ℕ) → Reached p memory → possible r → OnlyOwn p r memory (leaves p memory r lent)
+OnlyWriters = (p : Policy) (memory : List ℕ) (r : Request) (lent : List ℕ) → Reached p memory → Typed r → OnlyOwn p r memory (leaves p memory r lent)
 
 -- AGAIN. A query that was answered, asked again at once with a row that is long enough, is answered the same, and no row is examined.
 abbrev pub Again : Type 0
@@ -126,7 +126,7 @@ Again = (p : Policy) (memory : List ℕ) (user : ℕ) (query : Query) (lent more
 
 -- Who isn't there is refused, and changes nothing.
 abbrev pub AbsentUsers : Type 0
-AbsentUsers = (p : Policy) (memory : List ℕ) (r : Request) (lent : List ℕ) → Reached p memory → possible r → there (rules_of p) (who r) ≡ false →
+AbsentUsers = (p : Policy) (memory : List ℕ) (r : Request) (lent : List ℕ) → Reached p memory → Typed r → there (rules_of p) (who r) ≡ false →
     (tells p memory r lent ≡ refused (absence r)) × (leaves p memory r lent ≡ memory)
 
 -- A query for what two compartments share is answered 'not seen', whatever is lent, if the user doesn't see both; and no row is examined.
@@ -156,7 +156,7 @@ pub record ButFor (at n : ℕ) (memory left : List ℕ) : Type 0 where
 
 -- ONE PLACE. A query changes no number of memory but those of its user's cache, and any other request none but those of the compartment in which its user writes.
 abbrev pub OnePlace : Type 0
-OnePlace = (p : Policy) (memory : List ℕ) (r : Request) (lent : List ℕ) → Reached p memory → possible r →
+OnePlace = (p : Policy) (memory : List ℕ) (r : Request) (lent : List ℕ) → Reached p memory → Typed r →
     let own = place_in p ((rules_of p).writes (who r)) in
     (asks r ≡ false → ButFor own.start (size own.capacity) memory (leaves p memory r lent))
     × (asks r ≡ true → ButFor (cache_start p (who r)) 192 memory (leaves p memory r lent))

@@ -19,14 +19,14 @@ pub record Made : Type 0 where
   pub row : List ℕ
 
 -- keys and amounts are below 2^32, as the code's types have them
-abbrev pub possible : Request → Type 0
-possible (Write user row) = Brought row
-possible (Delete user key) = Unit {0}
-possible (Copy user c range) = Unit {0}
-possible (Ask user query) = Unit {0}
+abbrev pub Typed : Request → Type 0
+Typed (Write user row) = Brought row
+Typed (Delete user key) = Unit {0}
+Typed (Copy user c range) = Unit {0}
+Typed (Ask user query) = Unit {0}
 
 abbrev pub Possible : Made → Type 0
-Possible m = possible m.request
+Possible m = Typed m.request
 
 -- what a call returns, as a response
 abbrev pub as_response : Result (Unit {0}) Refusal → Response

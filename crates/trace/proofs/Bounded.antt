@@ -1,7 +1,7 @@
 -- What is read from bytes has keys and amounts below 2^32.
 use Rattle.std.proofs.Common.{◌≡◌, ℕ, zero, suc, eqb, ltb, List, length, get_or, drop, Some, None, Ok, Err, Option, Result, refl, inl, inr}
 use Rattle.policy.specs.declared.refusal.Refusal.{Refusal}
-use Rattle.promises.specs.Traces.{possible}
+use Rattle.promises.specs.Traces.{Typed}
 use Rattle.request.specs.Decoded.{decoded}
 use Rattle.request.specs.Format.{WithinBounds}
 use Rattle.request.specs.declared.Request.{Request}
@@ -19,16 +19,16 @@ use Rattle.wire.specs.declared.item.Next.TheVariants as next
 use Rattle.wire.specs.declared.layout.Layout.{Layout}
 
 abbrev pub Bounded : Item → Type 0
-Bounded (item.Request r) = possible r
+Bounded (item.Request r) = Typed r
 Bounded (item.NoRequest user place) = Unit {0}
 
 -- the item that comes next, if there is one, is bounded
 abbrev NextBounded : Next → Type 0
-NextBounded (next.Request r length) = possible r
+NextBounded (next.Request r length) = Typed r
 NextBounded (next.Fault user place length) = Unit {0}
 NextBounded (next.End place) = Unit {0}
 
-within : (q : Request) → WithinBounds q → possible q
+within : (q : Request) → WithinBounds q → Typed q
 within (request.Write user row) b = (b.1.1.0, b.1.1.1.0)
 within (request.Delete user key) b = tt
 within (request.Copy user c range) b = tt

@@ -1,5 +1,5 @@
 // The tables of a policy: where compartments begin, and where rows may flow.
-ghost use Rattle.std.specs.Prelude.{◌≡◌, ◌≤◌, true, length, take};
+ghost use Rattle.std.specs.Prelude.{◌≡◌, ◌≤◌, true, length, take, drop};
 ghost use Rattle.std.specs.List.{list_all};
 ghost use Rattle.policy.specs.Layout.{starts_from, end_from};
 ghost use Rattle.policy.specs.Policies.{flow_row, flow_table, lets, all_within, capacities_in, starts_in};
@@ -15,6 +15,7 @@ pub(crate) fn place(places: &mut [Place], capacities: &[u64]) -> usize
     ensures capacities { capacities_in (take (length capacities.now) places.new) ≡ capacities.now }
     ensures starts { starts_in (take (length capacities.now) places.new) ≡ starts_from 0 capacities.now }
     ensures end { result ≡ end_from 0 capacities.now }
+    ensures behind { drop (length capacities.now) places.new ≡ drop (length capacities.now) places.old }
 {
     let mut end = 0;
     // By index, since a proof knows no elements after `zip` with `iter_mut`.

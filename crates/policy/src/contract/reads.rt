@@ -1,7 +1,8 @@
 // A user's contract from the numbers of a policy.
-ghost use Rattle.std.specs.Prelude.{◌≡◌, ◌<◌, length};
+ghost use Rattle.std.specs.Prelude.{◌≡◌, ◌<◌, ◌≤◌, [], length};
 ghost use Rattle.policy.specs.Numbers.{users_in};
 ghost use Rattle.policy.specs.Read.{Says, Say};
+ghost use Rattle.policy.specs.Views.{view_of};
 
 use super::Contract;
 use crate::ArrayList;
@@ -12,7 +13,8 @@ use std::array::from_fn;
 impl Contract {
     // Whoever is not there sees nothing. What lies behind a view is not looked at.
     fn of_user(numbers: &Numbers, user: usize) -> Contract
-        ensures { user < users_in numbers.now.all.now → Says numbers.now.all.now user result }
+        ensures there { user < users_in numbers.now.all.now → Says numbers.now.all.now user result }
+        ensures absent { users_in numbers.now.all.now ≤ user → (view_of result ≡ []) × (result.writes ≡ 0) }
     {
         if user >= numbers.users() {
             return Contract {

@@ -10,3 +10,4 @@ invariant-loop-i l =
     × (starts_in (take l.i l.places) ++ starts_from l.end (drop l.i l.capacities) ≡ starts_from 0 l.capacities)
     × (capacities_in (take l.i l.places) ≡ take l.i l.capacities)
     × (l.end ≤ l.i * 8194)
+    × (drop l.i l.places ≡ drop l.i l.fn.places)

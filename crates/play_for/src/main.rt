@@ -20,7 +20,7 @@ fn main(rt: HostRuntime) -> io::Result<ExitCode> {
     rt.stdin().read_to_end(&mut bytes)?;
     let mut memory = [0; MEMORY];
     let played = trace::play_for(rt.alloc(), &mut memory, user as usize, bytes.as_slice())?;
-    played.tell(&rt)
+    played.tell(&mut rt.stdout(), &mut rt.stderr())
 }
 
 // The user that the one argument names, if it is a decimal number of a byte; the first word is the program's name.

@@ -1,5 +1,5 @@
 -- How playing a trace ends, and what is told of it.
-use Rattle.std.specs.Prelude.{◌≡◌, ℕ, Some, None, Ok, Err, Option, Result, alloc_error}
+use Rattle.std.specs.Prelude.{◌≡◌, ℕ, List, [], ◌++◌, codes, Some, None, Ok, Err, Option, Result, alloc_error}
 use Rattle.std.specs.declared.alloc.Global.{Global}
 use Rattle.std.specs.declared.alloc.AllocError.{AllocError}
 use Rattle.std.specs.declared.string.String.{String}
@@ -7,6 +7,7 @@ use Rattle.played.specs.declared.Played.{Played}
 use Rattle.played.specs.declared.stop.Stop.{Stop}
 use Rattle.played.specs.declared.stop.Stop.TheVariants.{Refused, OutOfMemory}
 use Rattle.policy.specs.declared.refusal.Refusal.{Refusal}
+use Rattle.policy.specs.Refusals.{refusal_line}
 
 -- P, unless memory ran out
 abbrev pub UnlessMemory : Result (Unit {0}) Stop → Type 0 → Type 0
@@ -29,3 +30,8 @@ played_as text (Err OutOfMemory) = Err alloc_error
 abbrev pub status : Option Refusal → ℕ
 status None = 0
 status (Some refusal) = 1
+
+-- the line that tells why, if there is a reason
+abbrev pub reason : Option Refusal → List ℕ
+reason None = []
+reason (Some refusal) = refusal_line refusal ++ codes "\n"

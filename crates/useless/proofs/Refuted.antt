@@ -81,6 +81,9 @@ empties_caches =
     let asked = state_after stores.empties_caches three (Ask 1 (Total digits) ∷ []) in
     refuted refl (λ h. ap length ((h three asked (lend (Write 0 (row 5)) 100)).cache 1 (λ e. cc))) (λ e. cc)
 
+pub raises_all : useless.RaisesAllUseless
+raises_all = refuted refl (λ h. (h apart empty (lend (Write 1 (row 5)) 100)).version 0 (λ e. cc)) (λ e. cc)
+
 pub one_count : useless.OneCountUseless
 one_count = refuted refl (λ h. (h apart empty (lend (Write 0 (row 5)) 100) (lend (Write 1 (row 5)) 100) refl refl (λ e. cc)).0.version 0) (λ e. cc)
 

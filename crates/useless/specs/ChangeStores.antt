@@ -66,6 +66,10 @@ puts_last = altered (λ p s request t. on_write (λ user row. changed s (p.write
 abbrev pub empties_caches : Rules → Machine State
 empties_caches = altered (λ p s request t. on_write (λ user row. record { rows = t.rows; version = t.version; cache = λ u. [] }) t request)
 
+-- RAISES ALL: a change raises the versions of all compartments.
+abbrev pub raises_all : Rules → Machine State
+raises_all = altered (λ p s request t. cond (asks request) t (record { rows = t.rows; version = λ c. suc (s.version c); cache = t.cache }))
+
 -- the highest version of some compartments
 abbrev pub highest : State → List ℕ → ℕ
 highest s [] = 0

@@ -13,7 +13,7 @@ use Rattle.talking.specs.Talks.{row, digits, apart}
 use Rattle.useless.specs.Promises.{RightAnswers}
 use Rattle.useless.specs.Effects.{WriteTold, DeleteTold, CopyTold, WriteEffect, DeleteEffect, CopyEffect, OnlyWriters, AbsentUsers, EitherOrder}
 use Rattle.useless.specs.Order.{Order}
-use Rattle.useless.specs.ChangeStores.{refuses_all, serves_absent, refuses_writes, refuses_when_full, raises_first, says_done, puts_last, empties_caches, one_count, says_deleted, deletes_two, refuses_copies, any_flow, copies_nothing, copies_what_fits}
+use Rattle.useless.specs.ChangeStores.{refuses_all, serves_absent, refuses_writes, refuses_when_full, raises_first, says_done, puts_last, empties_caches, raises_all, one_count, says_deleted, deletes_two, refuses_copies, any_flow, copies_nothing, copies_what_fits}
 use Rattle.useless.specs.Fails.{Fails, state_after, told_after, maps_after, ask}
 
 -- Nobody is answered, and no write is done; and yet noninterference holds, so that it is not enough alone.
@@ -60,6 +60,10 @@ PutsLastUseless =
 abbrev pub EmptiesCachesUseless : Type 0
 EmptiesCachesUseless =
     Fails (OnlyWriters empties_caches) (length ((state_after empties_caches three (Ask 1 (Total digits) ∷ Write 0 (row 5) ∷ [])).cache 1)) 0 1
+
+-- A write of user 1 raises the version of compartment 0, where they don't write.
+abbrev pub RaisesAllUseless : Type 0
+RaisesAllUseless = Fails (OnlyWriters raises_all) ((state_after raises_all apart (Write 1 (row 5) ∷ [])).version 0) 1 0
 
 -- Compartment 0 is at its version 1 if user 0 writes first, and at 2 if user 1 does.
 abbrev pub OneCountUseless : Type 0

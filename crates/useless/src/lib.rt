@@ -4,7 +4,7 @@
 
 ghost use Rattle.useless.specs.ChangeUseless.{AnyFlowUseless, CopiesNothingUseless, CopiesWhatFitsUseless};
 ghost use Rattle.useless.specs.ChangeUseless.{DeletesTwoUseless, EmptiesCachesUseless, OneCountUseless};
-ghost use Rattle.useless.specs.ChangeUseless.{PutsLastUseless, RaisesFirstUseless, RefusesAllUseless};
+ghost use Rattle.useless.specs.ChangeUseless.{PutsLastUseless, RaisesAllUseless, RaisesFirstUseless, RefusesAllUseless};
 ghost use Rattle.useless.specs.ChangeUseless.{RefusesCopiesUseless, RefusesWhenFullUseless, RefusesWritesUseless};
 ghost use Rattle.useless.specs.ChangeUseless.{SaysDeletedUseless, SaysDoneUseless, ServesAbsentUseless};
 ghost use Rattle.useless.specs.QueryUseless.{AnswersNothingUseless, AnyLengthUseless, KeepsEveryUseless};
@@ -55,6 +55,11 @@ pub fn puts_last_stands()
 // A write empties the caches of all.
 pub fn empties_caches_stands()
     ensures { EmptiesCachesUseless }
+{}
+
+// A change raises the versions of all compartments.
+pub fn raises_all_stands()
+    ensures { RaisesAllUseless }
 {}
 
 // Versions count the changes of all compartments.

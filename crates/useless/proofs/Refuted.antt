@@ -1,19 +1,25 @@
 -- The traces compute.
-use Rattle.std.proofs.Common.{◌≡◌, ℕ, List, [], ◌∷◌, sym, refl, ◌∙◌, ◌==◌, inl, inr, arith}
+use Rattle.std.proofs.Common.{◌≡◌, ℕ, List, [], ◌∷◌, sym, refl, ap, ◌∙◌, length, ◌==◌, inl, inr, arith}
 use Rattle.std.proofs.lemmas.Bool.{cases_Bool, true≢false, or_left}
+use Rattle.rows.specs.Rows.{amount_of}
 use Rattle.policy.specs.Rules.{Rules}
+use Rattle.policy.specs.declared.refusal.Refusal.TheVariants.{NoRoom}
 use Rattle.query.specs.declared.Query.TheVariants.{Total}
 use Rattle.query.specs.Answers.{total, answer}
 use Rattle.request.specs.declared.Request.{Request}
-use Rattle.request.specs.declared.Request.TheVariants.{Write}
+use Rattle.request.specs.declared.Request.TheVariants.{Write, Query as Ask}
 use Rattle.model.specs.Example.{three}
-use Rattle.model.specs.Model.{State, Call, Response, answered, empty, who, relevant, purge}
+use Rattle.model.specs.Model.{State, Call, lend, Response, answered, empty, who, relevant, purge}
 use Rattle.talking.specs.Frame.{Machine, told_from}
-use Rattle.talking.specs.Talks.{calls, row, digits}
-use Rattle.useless.specs.Statements.{after, examined, RightAnswers}
-use Rattle.useless.specs.Stores as stores
-use Rattle.useless.specs.Useless as useless
-use Rattle.useless.specs.Useless.{Fails, told_after, ask, others, within}
+use Rattle.talking.specs.Talks.{calls, row, digits, apart}
+use Rattle.useless.specs.Promises.{examined, RightAnswers}
+use Rattle.useless.specs.ChangeStores as stores
+use Rattle.useless.specs.QueryStores as asked
+use Rattle.useless.specs.Fails.{Fails, state_after, told_after, ask}
+use Rattle.useless.specs.ChangeUseless as useless
+use Rattle.useless.specs.ChangeUseless.{within, three_rows}
+use Rattle.useless.specs.QueryUseless as useless_asked
+use Rattle.useless.specs.QueryUseless.{others}
 
 -- a statement under which something would be otherwise fails
 refuted : {A : Type 0} {Statement : Type 0} {seen is due : A} → seen ≡ is → (Statement → seen ≡ due) → (is ≡ due → ⊥) → Fails Statement seen is due
@@ -21,7 +27,7 @@ refuted e f d = record { is_so = e; would_be = f; differ = d; fails = λ h. d (s
 
 -- what a query is to be told after some requests
 abbrev due_after : (Rules → Machine State) → List Request → Response
-due_after m before = answered (answer (three.view 0) (after m three (calls before)).rows (Total digits)) (examined m three (calls before) 0 (Total digits))
+due_after m before = answered (answer (three.view 0) (state_after m three before).rows (Total digits)) (examined m three (calls before) 0 (Total digits))
 
 answered_wrongly : (m : Rules → Machine State) (before : List Request) {is due : Response} →
     told_after m three before ask ≡ is → due_after m before ≡ due → (is ≡ due → ⊥) → Fails (RightAnswers m) (told_after m three before ask) is due
@@ -46,8 +52,46 @@ refuses_all = (
   λ p v calls sound. silent p v empty calls,
 )
 
+pub serves_absent : useless.ServesAbsentUseless
+serves_absent =
+    let call = lend (Write 3 (row 5)) 100 in (
+      refuted refl (λ h. (h three empty call refl).0) (λ e. cc),
+      refuted refl (λ h. ap (λ s. amount_of 5 (s.rows 0)) (h three empty call refl).1) (λ e. cc),
+    )
+
 pub refuses_writes : useless.RefusesWritesUseless
 refuses_writes = refuted refl (λ h. h three [] 0 (row 5) 100) (λ e. cc)
+
+pub refuses_when_full : useless.RefusesWhenFullUseless
+refuses_when_full = refuted refl (λ h. h apart (calls (Write 0 (row 5) ∷ [])) 0 (row 5) 100) (λ e. cc)
+
+pub raises_first : useless.RaisesFirstUseless
+raises_first =
+    let full = state_after stores.raises_first apart (Write 0 (row 5) ∷ []) in
+    (refl, refuted refl (λ h. ap (λ s. s.version 0) (h apart full (lend (Write 0 (row 6)) 100) (NoRoom 1) refl)) (λ e. cc))
+
+pub says_done : useless.SaysDoneUseless
+says_done = (refl, refuted refl (λ h. (h three [] 0 (row 5) 100 refl).1 5) (λ e. cc))
+
+pub puts_last : useless.PutsLastUseless
+puts_last = (refl, λ h. let up = (h three (calls (Write 0 (row 6) ∷ Write 0 (row 5) ∷ [])) 0).rising in omega (arith, up.1.0))
+
+pub empties_caches : useless.EmptiesCachesUseless
+empties_caches =
+    let asked = state_after stores.empties_caches three (Ask 1 (Total digits) ∷ []) in
+    refuted refl (λ h. ap length ((h three asked (lend (Write 0 (row 5)) 100)).cache 1 (λ e. cc))) (λ e. cc)
+
+pub raises_all : useless.RaisesAllUseless
+raises_all = refuted refl (λ h. (h apart empty (lend (Write 1 (row 5)) 100)).version 0 (λ e. cc)) (λ e. cc)
+
+pub one_count : useless.OneCountUseless
+one_count = refuted refl (λ h. (h apart empty (lend (Write 0 (row 5)) 100) (lend (Write 1 (row 5)) 100) refl refl (λ e. cc)).0.version 0) (λ e. cc)
+
+pub says_deleted : useless.SaysDeletedUseless
+says_deleted = refuted refl (λ h. h three [] 0 5 100) (λ e. cc)
+
+pub deletes_two : useless.DeletesTwoUseless
+deletes_two = (refl, refuted refl (λ h. (h three (calls (Write 0 (row 5) ∷ Write 0 (row 6) ∷ [])) 0 5 100 refl).1 6) (λ e. cc))
 
 pub refuses_copies : useless.RefusesCopiesUseless
 refuses_copies = refuted refl (λ h. h three (calls (Write 1 (row 5) ∷ [])) 0 1 digits 100) (λ e. cc)
@@ -55,29 +99,41 @@ refuses_copies = refuted refl (λ h. h three (calls (Write 1 (row 5) ∷ [])) 0 
 pub any_flow : useless.AnyFlowUseless
 any_flow = (refuted refl (λ h. h within (calls (Write 0 (row 5) ∷ [])) 2 0 digits 100) (λ e. cc), refl)
 
-pub says_done : useless.SaysDoneUseless
-says_done = (refl, refuted refl (λ h. (h three [] 0 (row 5) 100 refl).1 5) (λ e. cc))
-
 pub copies_nothing : useless.CopiesNothingUseless
 copies_nothing = (refl, refuted refl (λ h. (h three (calls (Write 1 (row 5) ∷ [])) 0 1 digits 100 refl).1 5) (λ e. cc))
 
-pub answers_nothing : useless.AnswersNothingUseless
-answers_nothing = answered_wrongly stores.answers_nothing (Write 0 (row 5) ∷ []) refl refl (λ e. cc)
-
-pub none_examined : useless.NoneExaminedUseless
-none_examined = answered_wrongly stores.none_examined (Write 0 (row 5) ∷ []) refl refl (λ e. cc)
-
-pub no_cache : useless.NoCacheUseless
-no_cache = (
-  refuted refl (λ h. h three (calls (Write 0 (row 5) ∷ [])) 0 (Total digits) 100 100 (total 1 10) 1 (omega arith) refl) (λ e. cc),
-  answered_wrongly stores.no_cache (Write 0 (row 5) ∷ ask ∷ []) refl refl (λ e. cc),
+pub copies_what_fits : useless.CopiesWhatFitsUseless
+copies_what_fits = (
+  refuted refl (λ h. h three (calls three_rows) 2 1 digits 100) (λ e. cc),
+  refuted refl (λ h. (h three (calls three_rows) 2 1 digits 100 refl).1 7) (λ e. cc),
 )
 
-pub stale_answers : useless.StaleAnswersUseless
-stale_answers = answered_wrongly stores.stale_answers (Write 0 (row 5) ∷ ask ∷ Write 0 (row 6) ∷ []) refl refl (λ e. cc)
+pub answers_nothing : useless_asked.AnswersNothingUseless
+answers_nothing = answered_wrongly asked.answers_nothing (Write 0 (row 5) ∷ []) refl refl (λ e. cc)
 
-pub seven_kept : useless.SevenKeptUseless
-seven_kept = answered_wrongly (stores.keeps 7) (Write 0 (row 9) ∷ ask ∷ others 7) refl refl (λ e. cc)
+pub none_examined : useless_asked.NoneExaminedUseless
+none_examined = answered_wrongly asked.none_examined (Write 0 (row 5) ∷ []) refl refl (λ e. cc)
 
-pub nine_kept : useless.NineKeptUseless
-nine_kept = answered_wrongly (stores.keeps 9) (Write 0 (row 9) ∷ ask ∷ others 8) refl refl (λ e. cc)
+pub any_length : useless_asked.AnyLengthUseless
+any_length = refuted refl (λ h. (h three empty 0 (Total digits) 1 (omega arith) (omega arith)).0) (λ e. cc)
+
+pub long_row_first : useless_asked.LongRowFirstUseless
+long_row_first = refuted refl (λ h. h three [] 1 1 0 digits 0 (omega arith) refl) (λ e. cc)
+
+pub no_cache : useless_asked.NoCacheUseless
+no_cache = (
+  refuted refl (λ h. h three (calls (Write 0 (row 5) ∷ [])) 0 (Total digits) 100 100 (total 1 10) 1 (omega arith) refl) (λ e. cc),
+  answered_wrongly asked.no_cache (Write 0 (row 5) ∷ ask ∷ []) refl refl (λ e. cc),
+)
+
+pub stale_answers : useless_asked.StaleAnswersUseless
+stale_answers = answered_wrongly asked.stale_answers (Write 0 (row 5) ∷ ask ∷ Write 0 (row 6) ∷ []) refl refl (λ e. cc)
+
+pub seven_kept : useless_asked.SevenKeptUseless
+seven_kept = answered_wrongly (asked.keeps 7) (Write 0 (row 9) ∷ ask ∷ others 7) refl refl (λ e. cc)
+
+pub nine_kept : useless_asked.NineKeptUseless
+nine_kept = answered_wrongly (asked.keeps 9) (Write 0 (row 9) ∷ ask ∷ others 8) refl refl (λ e. cc)
+
+pub keeps_every : useless_asked.KeepsEveryUseless
+keeps_every = (refl, λ h. let few = (h three (calls (others 9)) 0).0 in omega arith)

@@ -1,4 +1,12 @@
 -- What the contracts of this crate cite.
-pub mod Statements
-pub mod Stores
-pub mod Useless
+pub mod After
+pub mod Promises
+pub mod Effects
+pub mod Order
+pub mod Useful
+pub mod Varied
+pub mod ChangeStores
+pub mod QueryStores
+pub mod Fails
+pub mod ChangeUseless
+pub mod QueryUseless

@@ -14,7 +14,7 @@ use Rattle.rows.proofs.Places.{take_flat, drop_flat}
 use Rattle.rows.proofs.Theorems.{length_in_front, put_is_put, put_rises, delete_is_without, delete_rises}
 use Rattle.policy.specs.declared.refusal.Refusal.{Refusal}
 use Rattle.policy.specs.declared.refusal.Refusal.TheVariants.{NoRoom, NoRow}
-use Rattle.compartment.specs.Parts.{limit, capacity, sound, fault, fitting, told_by, after_by, checked, rows_part, write_told, write_after, delete_told, delete_after, raise_told, raise_after}
+use Rattle.compartment.specs.Parts.{limit, capacity, sound, fault, told_by, after_by, checked, rows_part, write_told, write_after, delete_told, delete_after, raise_told, raise_after}
 use Rattle.compartment.specs.Holding.{Brought, Holds, raising, filling, EmptyHolds, CheckCounts, RowsAreFlat, WriteTells, WriteHolds, WriteRefused, DeleteTells, DeleteHolds, DeleteRefused, RaiseTells, RaiseLeaves, RaiseHolds, RaiseRefused, RefilledHolds}
 
 pub empty_holds : EmptyHolds
@@ -64,8 +64,11 @@ delete_refused start compartment key part e =
     refused_when (sound part) compartment (NoRow key) (fault start part) (take 2 part ++ delete_from (get_or part 1 0) key (drop 2 part)) part (delete_count (get_or part 1 0) key (drop 2 part)) e
 
 pub raise_refused : RaiseRefused
-raise_refused start compartment count part e =
-    refused_when (sound part) compartment (NoRoom (capacity part)) (fault start part) part part (fitting count part) e
+raise_refused compartment count part e =
+    elim (cases_Bool (leb (2 + 2 * count) (length part))) [
+      | inl a ↦ elim (cases_Bool (ltb (get_or part 0 0 + 1) limit)) [ inl t ↦ absurd (true≢false (rw (a, t) at e)) | inr t ↦ rw (a, t) refl ]
+      | inr a ↦ rw a refl
+    ]
 
 module _ (c version : ℕ) (rows : List Row) (part : List ℕ) (h : Holds c version rows part) where
   behind : length (flat rows ++ h.rest) ≡ 2 * c
@@ -73,6 +76,9 @@ module _ (c version : ℕ) (rows : List Row) (part : List ℕ) (h : Holds c vers
 
   room_is : capacity part ≡ c
   room_is = omega (arith, h.long)
+
+  room_for : (count : ℕ) → leb (2 + 2 * count) (length part) ≡ leb count c
+  room_for count = let long = h.long in grind (arith, nat_tests)
 
   version_is : get_or part 0 0 ≡ version
   version_is = rw h.is refl
@@ -199,22 +205,17 @@ module _ (c version : ℕ) (rows : List Row) (part : List ℕ) (h : Holds c vers
           ∙ raised_is (length (without key rows)) (length rows) _ (delete_from (get_or part 1 0) key (drop 2 part)) d.1 (front_is _)
           ∙ ap (λ l. suc version ∷ length (without key rows) ∷ l) delete_from_is)
 
+  module _ (compartment : ℕ) where
     module _ (count : ℕ) where
-      raise_told_is : raise_told start compartment count part ≡ filling c compartment version count
-      raise_told_is =
-          cond-true (sound part) _ _ sound_is
-          ∙ told_when compartment count (NoRoom (capacity part)) (leb count (capacity part))
-          ∙ ap (λ k. cond (leb count k) (raising compartment version) (Err (NoRoom k))) room_is
+      raise_told_is : raise_told compartment count part ≡ filling c compartment version count
+      raise_told_is = rw (room_for count, version_is, add-one version, room_is) refl
 
-      raise_after_is : raise_told start compartment count part ≡ Ok tt → raise_after count part ≡ suc version ∷ count ∷ drop 2 part
+      raise_after_is : raise_told compartment count part ≡ Ok tt → raise_after count part ≡ suc version ∷ count ∷ drop 2 part
       raise_after_is e =
           let d = done_when compartment version (NoRoom c) (leb count c) (sym raise_told_is ∙ e) in
-          cond-true (sound part) _ _ sound_is
-          ∙ ap (λ k. after_by part part (cond (leb count k) (Some count) None)) room_is
-          ∙ ap (λ b. after_by part part (cond b (Some count) None)) d.0
-          ∙ raised_is count (length rows) part (drop 2 part) d.1 (rw h.is refl)
+          rw (room_for count, d.0) (raised_is count (length rows) part (drop 2 part) d.1 (rw h.is refl))
 
-    raised_holds : raise_told start compartment (length rows) part ≡ Ok tt → Holds c (suc version) rows (raise_after (length rows) part)
+    raised_holds : raise_told compartment (length rows) part ≡ Ok tt → Holds c (suc version) rows (raise_after (length rows) part)
     raised_holds e =
         let d = done_when compartment version (NoRoom c) (leb (length rows) c) (sym (raise_told_is (length rows)) ∙ e) in
         refilled rows (raise_after (length rows) part) h.rises h.brought h.fits d.1
@@ -243,10 +244,10 @@ pub delete_holds : DeleteHolds
 delete_holds c version start compartment key rows part h = deleted c version rows part h start compartment key
 
 pub raise_tells : RaiseTells
-raise_tells c version start compartment count rows part h = raise_told_is c version rows part h start compartment count
+raise_tells c version compartment count rows part h = raise_told_is c version rows part h compartment count
 
 pub raise_leaves : RaiseLeaves
-raise_leaves c version start compartment count rows part h = raise_after_is c version rows part h start compartment count
+raise_leaves c version compartment count rows part h = raise_after_is c version rows part h compartment count
 
 pub raise_holds : RaiseHolds
-raise_holds c version start compartment rows part h = raised_holds c version rows part h start compartment
+raise_holds c version compartment rows part h = raised_holds c version rows part h compartment

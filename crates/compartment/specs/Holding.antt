@@ -74,22 +74,22 @@ DeleteRefused = (start compartment key : ℕ) (part : List ℕ) → is_ok (delet
 
 abbrev pub RaiseTells : Type 0
 RaiseTells =
-    (capacity version start compartment count : ℕ) (rows : List Row) (part : List ℕ) → Holds capacity version rows part
-    → raise_told start compartment count part ≡ filling capacity compartment version count
+    (capacity version compartment count : ℕ) (rows : List Row) (part : List ℕ) → Holds capacity version rows part
+    → raise_told compartment count part ≡ filling capacity compartment version count
 
 abbrev pub RaiseLeaves : Type 0
 RaiseLeaves =
-    (capacity version start compartment count : ℕ) (rows : List Row) (part : List ℕ) → Holds capacity version rows part
-    → raise_told start compartment count part ≡ Ok tt → raise_after count part ≡ suc version ∷ count ∷ drop 2 part
+    (capacity version compartment count : ℕ) (rows : List Row) (part : List ℕ) → Holds capacity version rows part
+    → raise_told compartment count part ≡ Ok tt → raise_after count part ≡ suc version ∷ count ∷ drop 2 part
 
 -- to as many rows as there are
 abbrev pub RaiseHolds : Type 0
 RaiseHolds =
-    (capacity version start compartment : ℕ) (rows : List Row) (part : List ℕ) → Holds capacity version rows part
-    → raise_told start compartment (length rows) part ≡ Ok tt → Holds capacity (suc version) rows (raise_after (length rows) part)
+    (capacity version compartment : ℕ) (rows : List Row) (part : List ℕ) → Holds capacity version rows part
+    → raise_told compartment (length rows) part ≡ Ok tt → Holds capacity (suc version) rows (raise_after (length rows) part)
 
 abbrev pub RaiseRefused : Type 0
-RaiseRefused = (start compartment count : ℕ) (part : List ℕ) → is_ok (raise_told start compartment count part) ≡ false → raise_after count part ≡ part
+RaiseRefused = (compartment count : ℕ) (part : List ℕ) → is_ok (raise_told compartment count part) ≡ false → raise_after count part ≡ part
 
 -- other rows in front, one version on
 abbrev pub RefilledHolds : Type 0

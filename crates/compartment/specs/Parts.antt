@@ -75,18 +75,10 @@ delete_told start compartment key part = change_told start compartment (λ capac
 abbrev pub delete_after : ℕ → List ℕ → List ℕ
 delete_after key part = change_after (λ count rows. delete_count count key rows) (λ count rows. delete_from count key rows) part
 
--- a number of rows, where there is room for them
-abbrev pub fitting : ℕ → List ℕ → Option ℕ
-fitting count part = cond (nat_le count (capacity part)) (Some count) None
-
--- the same, of the memory of the rows
-abbrev pub refilled : ℕ → List ℕ → Option ℕ
-refilled count rows = cond (nat_le count (length rows / 2)) (Some count) None
-
--- a change to a number of rows, which are written later
-abbrev pub raise_told : ℕ → ℕ → ℕ → List ℕ → Result (Unit {0}) Refusal
-raise_told start compartment count part =
-    cond (sound part) (told_by compartment (NoRoom (capacity part)) part (fitting count part)) (Err (fault start part))
+-- a change to a number of rows, which are written later; it judges only whether there is room for them, and whether the version may rise
+abbrev pub raise_told : ℕ → ℕ → List ℕ → Result (Unit {0}) Refusal
+raise_told compartment count part = cond (nat_le (2 + 2 * count) (length part)) (changing compartment part) (Err (NoRoom (capacity part)))
 
 abbrev pub raise_after : ℕ → List ℕ → List ℕ
-raise_after count part = cond (sound part) (after_by part part (fitting count part)) part
+raise_after count part =
+    cond (nat_le (2 + 2 * count) (length part) && nat_lt (slice_index part 0 + 1) limit) (raised (slice_index part 0) count part) part

@@ -1,7 +1,6 @@
 // The changes that the rows of a compartment take.
-ghost use Rattle.std.specs.Prelude.{◌≡◌, ℕ, ◌*◌, ◌≤◌, List, Option, None, length, is_some, refl};
+ghost use Rattle.std.specs.Prelude.{◌≡◌, ℕ, ◌*◌, ◌≤◌, List, Option, None, length, is_some};
 ghost use Rattle.rows.specs.Numbers.{put_count, put_into, delete_count, delete_from};
-ghost use Rattle.compartment.specs.Parts.{refilled};
 ghost use Rattle.policy.specs.declared.refusal.Refusal.{Refusal as RefusalOf};
 ghost use Rattle.policy.specs.declared.refusal.Refusal.TheVariants.{NoRoom, NoRow};
 ghost use Rattle.compartment.specs.Changes.{put_refused, delete_refused};
@@ -83,39 +82,5 @@ impl Change for Without {
 
     fn refusal(self, _capacity: usize) -> Refusal {
         Refusal::NoRow { key: self.0 }
-    }
-}
-
-// There are to be so many rows, which are written later.
-#[derive(Clone, Copy)]
-pub(crate) struct Refill(pub(crate) usize);
-
-impl Refill {
-    fn fitting(self, rows: &[u64]) -> Option<usize>
-        ensures { result ≡ refilled self.0 rows.now }
-    {
-        (self.0 <= rows.len() / 2).then_some(self.0)
-    }
-}
-
-impl Change for Refill {
-    ghost count_after = { λ refill count rows. refilled refill.0 rows };
-
-    ghost rows_after = { λ refill count rows. rows };
-
-    ghost refusal_told = { λ refill capacity. NoRoom capacity };
-
-    ghost refused_leaves = { λ refill count rows h. refl };
-
-    fn fits(self, rows: &[u64], _count: usize) -> bool {
-        self.fitting(rows).is_some()
-    }
-
-    fn make(self, rows: &mut [u64], _count: usize) -> Option<usize> {
-        self.fitting(rows)
-    }
-
-    fn refusal(self, capacity: usize) -> Refusal {
-        Refusal::NoRoom { capacity }
     }
 }

@@ -4,7 +4,7 @@
 ghost use Rattle.std.specs.Prelude.{◌≡◌, ◌+◌, ◌*◌, ◌^◌, ◌<◌, ◌≤◌, length, IfOk, slice_index};
 ghost use Rattle.compartment.specs.Parts.{checked, rows_part, change_told, change_after, write_told, write_after, delete_told, delete_after, raise_told, raise_after};
 
-use changes::{Change, Put, Refill, Without};
+use changes::{Change, Put, Without};
 use policy::{Refusal, VERSION_LIMIT, Written};
 use rows::Row;
 
@@ -55,14 +55,6 @@ pub fn delete(part: &mut [u64], written: Written, key: u32) -> Result<(), Refusa
     change(part, written, Without(key))
 }
 
-// Raises the version and sets the number of rows, which the caller then writes; a refusal changes nothing.
-pub fn raise(part: &mut [u64], written: Written, count: usize) -> Result<(), Refusal>
-    ensures told { result ≡ raise_told written.place.start written.compartment count part.old }
-    ensures after { part.new ≡ raise_after count part.old }
-{
-    change(part, written, Refill(count))
-}
-
 // Any change of the rows, which raises the version: where both refuse, the rows do.
 fn change<C: Change>(part: &mut [u64], written: Written, change: C) -> Result<(), Refusal>
     ensures told { result ≡ change_told written.place.start written.compartment (C.refusal_told change) (C.count_after change) part.old }
@@ -84,6 +76,28 @@ fn change<C: Change>(part: &mut [u64], written: Written, change: C) -> Result<()
         return Err(change.refusal(capacity));
     };
     part[0] = version;
+    part[1] = count as u64;
+    Ok(())
+}
+
+// Raises the version and sets the number of rows, which the caller then writes; a refusal changes nothing.
+// Its caller has judged the part by `check`: what isn't known then is whether there is room for so many rows, and whether the version may rise.
+// Of a version out of bounds it says 'last version'.
+pub fn raise(part: &mut [u64], compartment: u64, count: usize) -> Result<(), Refusal>
+    ensures told { result ≡ raise_told compartment count part.old }
+    ensures after { part.new ≡ raise_after count part.old }
+{
+    // Version and number of rows take the room of a row, so that one test is enough for a part of any length.
+    let pairs = part.len() / 2;
+    if count >= pairs {
+        return Err(Refusal::NoRoom {
+            capacity: pairs.saturating_sub(1),
+        });
+    }
+    if part[0] >= VERSION_LIMIT - 1 {
+        return Err(Refusal::LastVersion { compartment });
+    }
+    part[0] += 1;
     part[1] = count as u64;
     Ok(())
 }
@@ -127,9 +141,23 @@ mod tests {
         assert!(rt; matches!(full, Err(Refusal::NoRoom { capacity: 1 })));
         let none = delete(&mut part, WRITTEN, 8);
         assert!(rt; matches!(none, Err(Refusal::NoRow { key: 8 })));
-        let last = raise(&mut part, WRITTEN, 1);
+        let last = raise(&mut part, WRITTEN.compartment, 1);
         assert!(rt; matches!(last, Err(Refusal::LastVersion { compartment: 3 })));
+        let full = raise(&mut part, WRITTEN.compartment, 2);
+        assert!(rt; matches!(full, Err(Refusal::NoRoom { capacity: 1 })));
         assert!(rt; part == [VERSION_LIMIT - 1, 1, 7, 70]);
+    }
+
+    #[test]
+    fn raises_to_rows_with_room(rt: HostRuntime) {
+        let mut part = [4, 1, 7, 70, 0, 0];
+        let full = raise(&mut part, WRITTEN.compartment, 3);
+        assert!(rt; matches!(full, Err(Refusal::NoRoom { capacity: 2 })));
+        assert!(rt; part == [4, 1, 7, 70, 0, 0]);
+        assert!(rt; raise(&mut part, WRITTEN.compartment, 2).is_ok());
+        assert!(rt; part == [5, 2, 7, 70, 0, 0]);
+        let short = raise(&mut part[..1], WRITTEN.compartment, 0);
+        assert!(rt; matches!(short, Err(Refusal::NoRoom { capacity: 0 })));
     }
 
     #[test]

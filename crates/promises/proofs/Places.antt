@@ -1,13 +1,13 @@
 -- What a request changes lies in one place of memory, and nothing behind the policy's part is touched.
-use Rattle.std.proofs.Common.{◌≡◌, ℕ, ◌+◌, ◌-◌, ◌<◌, ◌≤◌, Bool, true, false, cond, eqb, ltb, List, [], ◌∷◌, ◌++◌, length, get_or, take, drop, replicate, is_ok, Some, None, Ok, Option, Result, sym, refl, ap, ◌∙◌, inl, inr, arith}
+use Rattle.std.proofs.Common.{◌≡◌, ℕ, ◌+◌, ◌-◌, ◌*◌, ◌<◌, ◌≤◌, Bool, true, false, cond, ◌&&◌, eqb, ltb, leb, List, [], ◌∷◌, ◌++◌, length, get_or, take, drop, replicate, is_ok, Some, Ok, Result, sym, refl, ap, ◌∙◌, inl, inr, arith}
 use Rattle.answering.specs.Asked.{asked_memory}
 use Rattle.answering.proofs.Tied.{queries_as_model}
 use Rattle.cache.specs.Entries.{held}
 use Rattle.cache.proofs.Stored.{length_held}
 use Rattle.compartment.specs.Holding as compartment
 use Rattle.compartment.specs.Holding.{Brought}
-use Rattle.compartment.specs.Parts.{limit, sound, fitting, raised, after_by, write_told, write_after, delete_told, delete_after, raise_told, raise_after}
-use Rattle.compartment.proofs.Held.{write_holds, write_refused, delete_holds, delete_refused}
+use Rattle.compartment.specs.Parts.{limit, raised, write_told, write_after, delete_told, delete_after, raise_told, raise_after}
+use Rattle.compartment.proofs.Held.{check_counts, write_holds, write_refused, delete_holds, delete_refused}
 use Rattle.model.specs.Effects.{absence}
 use Rattle.model.specs.Model.{State, empty, lend, who, asks, there, may_copy, step}
 use Rattle.model.proofs.Interference.{absent}
@@ -62,19 +62,11 @@ as_wide : (n : ℕ) (told : Result (Unit {0}) Refusal) (old new : List ℕ) → 
 as_wide n told old new wide makes keeps = elim (cases_Bool (is_ok told)) [ inl e ↦ makes (ok_is told e) | inr e ↦ ap length (keeps e) ∙ wide ]
 
 raised_wide : (count : ℕ) (xs : List ℕ) → length (raise_after count xs) ≡ length xs
-raised_wide count xs = by_sound (sound xs) (fitting count xs)
+raised_wide count xs = by_test (leb (2 + 2 * count) (length xs) && ltb (get_or xs 0 0 + 1) limit)
   where
-    by_last : (b : Bool) (v n : ℕ) → length (cond b (raised v n xs) xs) ≡ length xs
-    by_last true v n = length-set _ 1 n ∙ length-set xs 0 (v + 1)
-    by_last false v n = refl
-
-    by_count : (o : Option ℕ) → length (after_by xs xs o) ≡ length xs
-    by_count None = refl
-    by_count (Some n) = by_last (ltb (get_or xs 0 0 + 1) limit) (get_or xs 0 0) n
-
-    by_sound : (b : Bool) (o : Option ℕ) → length (cond b (after_by xs xs o) xs) ≡ length xs
-    by_sound true o = by_count o
-    by_sound false o = refl
+    by_test : (b : Bool) → length (cond b (raised (get_or xs 0 0) count xs) xs) ≡ length xs
+    by_test true = length-set _ 1 count ∙ length-set xs 0 (get_or xs 0 0 + 1)
+    by_test false = refl
 
 module _ (p : Policy) (s : State) (memory : List ℕ) (h : Holds p s memory) where
   pub long : ltb (length memory) (memory_length p) ≡ false
@@ -109,18 +101,18 @@ module _ (p : Policy) (s : State) (memory : List ℕ) (h : Holds p s memory) whe
   -- a copy into a compartment d
   module _ (c d : ℕ) (c_there : c < p.compartments) (d_there : d < p.compartments) (range : KeyRange) where
     itself_replaced : Replaced (place_in p d).start (end (place_in p d) - (place_in p d).start) memory (itself_memory (record { compartment = d; place = place_in p d }) memory)
-    itself_replaced = record {
-      new = raise_after (get_or memory ((place_in p d).start + 1) 0) (part (place_in p d) memory);
-      wide = raised_wide (get_or memory ((place_in p d).start + 1) 0) (part (place_in p d) memory) ∙ part_wide d d_there;
-      is = refl;
-    }
+    itself_replaced =
+        let q = place_in p d in
+        let count = length (s.rows d) in
+        rw ((check_counts ((rules_of p).capacity d) (s.version d) (s.rows d) (part q memory) (held_part d d_there)).0 q.start)
+        (record { new = raise_after count (part q memory); wide = raised_wide count (part q memory) ∙ part_wide d d_there; is = refl })
 
     between_replaced : (d ≡ c → ⊥) →
         Replaced (place_in p d).start (end (place_in p d) - (place_in p d).start) memory (between_memory (place_in p c) (record { compartment = d; place = place_in p d }) range memory)
     between_replaced ne =
         let q = place_in p d in
         let count = length (put_all (rows_in range (s.rows c)) (s.rows d)) in
-        let told = raise_told q.start d count (part q memory) in
+        let told = raise_told d count (part q memory) in
         rw (counts_are p s memory h c d c_there d_there ne range, (plan_are p s memory h c d c_there d_there ne range).0, rows_are p s memory h c d c_there d_there ne range)
         (elim (cases_Bool (is_ok told)) [
           | inl e ↦

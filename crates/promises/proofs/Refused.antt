@@ -1,8 +1,8 @@
 -- A refusal leaves memory as it was, whatever it holds.
-use Rattle.std.proofs.Common.{◌≡◌, ℕ, ◌+◌, Bool, true, false, cond, eqb, List, length, get_or, is_ok, Some, None, Ok, Err, Option, Result, refl}
+use Rattle.std.proofs.Common.{◌≡◌, ℕ, Bool, true, false, cond, eqb, List, length, is_ok, Some, None, Ok, Err, Option, Result, refl}
 use Rattle.answering.specs.Asked.{asked_told, asked_row}
 use Rattle.answering.proofs.Refused.{refusals_leave}
-use Rattle.compartment.specs.Parts.{write_told, write_after, delete_told, delete_after}
+use Rattle.compartment.specs.Parts.{checked, write_told, write_after, delete_told, delete_after, raise_told, raise_after}
 use Rattle.compartment.proofs.Held.{write_refused, delete_refused, raise_refused}
 use Rattle.merge.specs.declared.Copying.{Copying}
 use Rattle.model.specs.Model.{refused}
@@ -15,7 +15,7 @@ use Rattle.query.specs.declared.Outcome.{Outcome}
 use Rattle.request.specs.declared.Request.TheVariants.{Write, Delete, Copy, Query as Ask}
 use Rattle.rows.specs.declared.KeyRange.{KeyRange}
 use Rattle.store.specs.Calls.{short, change_told, change_memory, both, counts_told, planned_told, planned_memory, plan_for, between_told, between_memory, memory_by, rows_then, itself_told, itself_memory, copy_told, copy_memory, wrote_told, deleted_told, copied_told}
-use Rattle.store.specs.Memory.{part}
+use Rattle.store.specs.Memory.{part, with_part}
 use Rattle.store.specs.declared.copying.counts.Counts.{Counts}
 use Rattle.store.proofs.Changing.{with_same}
 use Rattle.promises.specs.Effects.{RefusalsLeave}
@@ -38,14 +38,15 @@ change_leaves false x tell after user None memory keeps e = refl
 change_leaves false x tell after user (Some w) memory keeps e = rw (keeps w e) (with_same w.place memory)
 
 module _ (w : Written) (memory : List ℕ) where
-  itself_leaves : is_ok (itself_told w memory) ≡ false → itself_memory w memory ≡ memory
-  itself_leaves e =
-      rw (raise_refused w.place.start w.compartment (get_or memory (w.place.start + 1) 0) (part w.place memory) e) (with_same w.place memory)
+  itself_leaves : (x : Result ℕ Refusal) → is_ok (both x (λ count. raise_told w.compartment count (part w.place memory))) ≡ false →
+      memory_by memory x (λ count. with_part w.place (raise_after count (part w.place memory)) memory) ≡ memory
+  itself_leaves (Err x) e = refl
+  itself_leaves (Ok count) e = rw (raise_refused w.compartment count (part w.place memory) e) (with_same w.place memory)
 
   planned_leaves : (counts : Counts) (o : Option Copying) → is_ok (planned_told w counts o memory) ≡ false → planned_memory w counts o memory ≡ memory
   planned_leaves counts None e = refl
   planned_leaves counts (Some c) e =
-      rw (e, raise_refused w.place.start w.compartment (rows_then counts c) (part w.place memory) e) (with_same w.place memory)
+      rw (e, raise_refused w.compartment (rows_then counts c) (part w.place memory) e) (with_same w.place memory)
 
   by_counts : (from : Place) (range : KeyRange) (x : Result Counts Refusal) →
       is_ok (both x (λ counts. planned_told w counts (plan_for from w.place range memory counts) memory)) ≡ false →
@@ -56,7 +57,7 @@ module _ (w : Written) (memory : List ℕ) where
   -- where both compartments are there
   there_leaves : (same : Bool) (from : Place) (range : KeyRange) → is_ok (cond same (itself_told w memory) (between_told from w range memory)) ≡ false →
       cond same (itself_memory w memory) (between_memory from w range memory) ≡ memory
-  there_leaves true from range e = itself_leaves e
+  there_leaves true from range e = itself_leaves (checked w.place.start (part w.place memory)) e
   there_leaves false from range e = by_counts from range (counts_told from w.place memory) e
 
 copy_leaves : (b allowed : Bool) (x : Refusal) (c : ℕ) (range : KeyRange) (o : Option Written) (from : Option Place) (memory : List ℕ) →

@@ -25,7 +25,7 @@ use Rattle.store.specs.Simulation.{Holds, as_result, CopyFollows}
 use Rattle.store.proofs.Changing.{change_holds, apart, fits, ok_is}
 use Rattle.store.proofs.Following.{as_change}
 use Rattle.store.proofs.Parts.{kept_length, part_here, part_apart}
-use Rattle.store.proofs.Standing.{in_part, flat_in, stands_in, count_in, refill, few_in_range, copy_itself}
+use Rattle.store.proofs.Standing.{in_part, flat_in, stands_in, refill, few_in_range, copy_itself}
 
 -- between two compartments, c and d
 module _ (p : Policy) (s : State) (memory : List ℕ) (h : Holds p s memory) (c d : ℕ) (c_there : c < p.compartments) (d_there : d < p.compartments)
@@ -62,11 +62,11 @@ module _ (p : Policy) (s : State) (memory : List ℕ) (h : Holds p s memory) (c 
   rows_are = omega (arith, plan_are.1, few_in_range range (s.rows d))
 
   -- where it is done: memory with the version raised, and then with the rows merged
-  module _ (ok : raise_told (place_in p d).start d (length (put_all (rows_in range (s.rows c)) (s.rows d))) (part (place_in p d) memory) ≡ Ok tt) where
+  module _ (ok : raise_told d (length (put_all (rows_in range (s.rows c)) (s.rows d))) (part (place_in p d) memory) ≡ Ok tt) where
     can : (leb (length (put_all (rows_in range (s.rows c)) (s.rows d))) ((rules_of p).capacity d) ≡ true) × (suc (s.version d) < limit)
     can =
         done_when d (s.version d) (NoRoom ((rules_of p).capacity d)) (leb (length (put_all (rows_in range (s.rows c)) (s.rows d))) ((rules_of p).capacity d))
-        (sym (raise_tells ((rules_of p).capacity d) (s.version d) (place_in p d).start d (length (put_all (rows_in range (s.rows c)) (s.rows d))) (s.rows d) (part (place_in p d) memory) held_d) ∙ ok)
+        (sym (raise_tells ((rules_of p).capacity d) (s.version d) d (length (put_all (rows_in range (s.rows c)) (s.rows d))) (s.rows d) (part (place_in p d) memory) held_d) ∙ ok)
 
     room : length (put_all (rows_in range (s.rows c)) (s.rows d)) ≤ (rules_of p).capacity d
     room = leb-true _ _ can.0
@@ -77,7 +77,7 @@ module _ (p : Policy) (s : State) (memory : List ℕ) (h : Holds p s memory) (c 
     pub raised_is : raise_after (length (put_all (rows_in range (s.rows c)) (s.rows d))) (part (place_in p d) memory) ≡ raised
     unfolding raised
     raised_is =
-        raise_leaves ((rules_of p).capacity d) (s.version d) (place_in p d).start d (length (put_all (rows_in range (s.rows c)) (s.rows d))) (s.rows d) (part (place_in p d) memory) held_d ok
+        raise_leaves ((rules_of p).capacity d) (s.version d) d (length (put_all (rows_in range (s.rows c)) (s.rows d))) (s.rows d) (part (place_in p d) memory) held_d ok
 
     raised_long : length raised ≡ end (place_in p d) - (place_in p d).start
     unfolding raised
@@ -137,8 +137,8 @@ module _ (p : Policy) (s : State) (memory : List ℕ) (h : Holds p s memory) (c 
   between_follows =
       let new = put_all (rows_in range (s.rows c)) (s.rows d) in
       let q = place_in p d in
-      let told = raise_told q.start d (length new) (part q memory) in
-      let tells = raise_tells ((rules_of p).capacity d) (s.version d) q.start d (length new) (s.rows d) (part q memory) held_d
+      let told = raise_told d (length new) (part q memory) in
+      let tells = raise_tells ((rules_of p).capacity d) (s.version d) d (length new) (s.rows d) (part q memory) held_d
       ∙ sym (as_change (leb (length new) ((rules_of p).capacity d)) (ltb (suc (s.version d)) limit) (NoRoom ((rules_of p).capacity d)) (LastVersion d)) in (
         rw (counts_are, plan_are.0, rows_are) tells,
         rw (counts_are, plan_are.0, rows_are)
@@ -148,7 +148,7 @@ module _ (p : Policy) (s : State) (memory : List ℕ) (h : Holds p s memory) (c 
                   rw (e, raised_is ok, merged_is ok) (change_holds p s memory h d d_there told (filled ok) (filling (rules_of p) limit s d new) new tells (λ _. filled_holds ok) (λ no. absurd (both_ways (is_ok told) no e)))
               | inr e ↦
                   rw e (change_holds p s memory h d d_there told (raise_after (length new) (part q memory)) (filling (rules_of p) limit s d new) new tells
-                  (λ yes. absurd (both_ways (is_ok told) e (ap is_ok yes))) (λ no. raise_refused q.start d (length new) (part q memory) no))
+                  (λ yes. absurd (both_ways (is_ok told) e (ap is_ok yes))) (λ no. raise_refused d (length new) (part q memory) no))
             ]),
       )
 
@@ -161,13 +161,14 @@ module _ (p : Policy) (s : State) (memory : List ℕ) (h : Holds p s memory) (d 
       let q = place_in p d in
       let held = h.compartments d d_there in
       let rows = s.rows d in
-      let told = raise_told q.start d (length rows) (part q memory) in
-      let tells = raise_tells ((rules_of p).capacity d) (s.version d) q.start d (length rows) rows (part q memory) held
+      let count = (check_counts ((rules_of p).capacity d) (s.version d) rows (part q memory) held).0 q.start in
+      let told = raise_told d (length rows) (part q memory) in
+      let tells = raise_tells ((rules_of p).capacity d) (s.version d) d (length rows) rows (part q memory) held
       ∙ sym (as_change (leb (length rows) ((rules_of p).capacity d)) (ltb (suc (s.version d)) limit) (NoRoom ((rules_of p).capacity d)) (LastVersion d)) in (
-        rw (count_in q memory (s.version d) rows held) tells,
-        rw (count_in q memory (s.version d) rows held)
+        rw count tells,
+        rw count
             (change_holds p s memory h d d_there told (raise_after (length rows) (part q memory)) (filling (rules_of p) limit s d rows) rows tells
-            (raise_holds ((rules_of p).capacity d) (s.version d) q.start d rows (part q memory) held) (raise_refused q.start d (length rows) (part q memory))),
+            (raise_holds ((rules_of p).capacity d) (s.version d) d rows (part q memory) held) (raise_refused d (length rows) (part q memory))),
       )
 
 pub copy_follows : CopyFollows

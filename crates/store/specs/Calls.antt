@@ -1,5 +1,5 @@
 -- What each call tells, and what memory holds afterwards, for every content of memory.
-use Rattle.std.specs.Prelude.{ℕ, ◌+◌, ◌-◌, Bool, cond, List, ◌++◌, length, drop, replicate, is_ok, Some, None, Ok, Err, Option, Result, ◌==◌, nat_lt, slice_index}
+use Rattle.std.specs.Prelude.{ℕ, ◌+◌, ◌-◌, Bool, cond, List, ◌++◌, length, drop, replicate, is_ok, Some, None, Ok, Err, Option, Result, ◌==◌, nat_lt}
 use Rattle.compartment.specs.Parts.{checked, write_told, write_after, delete_told, delete_after, raise_told, raise_after}
 use Rattle.merge.specs.Numbers.{plan, merged_into}
 use Rattle.merge.specs.declared.Part.{Part}
@@ -69,13 +69,13 @@ rows_then counts c = counts.destination - c.destination.count + c.total
 -- a copy that was planned: the version is raised with the new number of rows, unless that is refused
 abbrev pub planned_told : Written → Counts → Option Copying → List ℕ → Result (Unit {0}) Refusal
 planned_told w counts None memory = Err (OutOfBounds (length memory))
-planned_told w counts (Some c) memory = raise_told w.place.start w.compartment (rows_then counts c) (part w.place memory)
+planned_told w counts (Some c) memory = raise_told w.compartment (rows_then counts c) (part w.place memory)
 
 -- and then the rows are merged
 abbrev pub planned_memory : Written → Counts → Option Copying → List ℕ → List ℕ
 planned_memory w counts None memory = memory
 planned_memory w counts (Some c) memory =
-    cond (is_ok (raise_told w.place.start w.compartment (rows_then counts c) (part w.place memory)))
+    cond (is_ok (raise_told w.compartment (rows_then counts c) (part w.place memory)))
     (merged_into c (with_part w.place (raise_after (rows_then counts c) (part w.place memory)) memory))
     (with_part w.place (raise_after (rows_then counts c) (part w.place memory)) memory)
 
@@ -87,9 +87,10 @@ abbrev pub between_told : Place → Written → KeyRange → List ℕ → Result
 between_told from w range memory =
     both (counts_told from w.place memory) (λ counts. planned_told w counts (plan_for from w.place range memory counts) memory)
 
-abbrev pub memory_by : List ℕ → Result Counts Refusal → (Counts → List ℕ) → List ℕ
+-- memory as it is where something refuses, and else what comes next
+abbrev pub memory_by : {A : Type 0} → List ℕ → Result A Refusal → (A → List ℕ) → List ℕ
 memory_by memory (Err e) next = memory
-memory_by memory (Ok counts) next = next counts
+memory_by memory (Ok a) next = next a
 
 abbrev pub between_memory : Place → Written → KeyRange → List ℕ → List ℕ
 between_memory from w range memory =
@@ -97,10 +98,11 @@ between_memory from w range memory =
 
 -- a copy of a compartment into itself: one change, and no row of it
 abbrev pub itself_told : Written → List ℕ → Result (Unit {0}) Refusal
-itself_told w memory = raise_told w.place.start w.compartment (slice_index memory (w.place.start + 1)) (part w.place memory)
+itself_told w memory = both (checked w.place.start (part w.place memory)) (λ count. raise_told w.compartment count (part w.place memory))
 
 abbrev pub itself_memory : Written → List ℕ → List ℕ
-itself_memory w memory = with_part w.place (raise_after (slice_index memory (w.place.start + 1)) (part w.place memory)) memory
+itself_memory w memory =
+    memory_by memory (checked w.place.start (part w.place memory)) (λ count. with_part w.place (raise_after count (part w.place memory)) memory)
 
 -- where both compartments are there; they are where the copy is allowed
 abbrev pub copy_told : ℕ → KeyRange → Option Written → Option Place → List ℕ → Result (Unit {0}) Refusal

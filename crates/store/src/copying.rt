@@ -67,7 +67,11 @@ impl Between<'_> {
             place,
         })?;
         let rows = counts.destination - copying.destination.count + copying.total;
-        compartment::raise(&mut memory[room_of(written.place)], written, rows)?;
+        compartment::raise(
+            &mut memory[room_of(written.place)],
+            written.compartment,
+            rows,
+        )?;
         // It is always done: the plan is of two compartments apart, leaves no fewer rows than before, and there is room for them.
         merge::merge_into(memory, copying);
         Ok(())
@@ -80,6 +84,7 @@ pub(crate) fn into_itself(memory: &mut [u64], written: Written) -> Result<(), Re
     ensures told { result ≡ itself_told written memory.old }
     ensures after { memory.new ≡ itself_memory written memory.old }
 {
-    let rows = memory[written.place.start + 1] as usize;
-    compartment::raise(&mut memory[room_of(written.place)], written, rows)
+    let place = written.place;
+    let rows = compartment::check(&memory[room_of(place)], place.start)?;
+    compartment::raise(&mut memory[room_of(place)], written.compartment, rows)
 }

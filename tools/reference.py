@@ -38,10 +38,10 @@ class Store:
             source = numbers[0]
             if source not in view or not self.flows(source, c):
                 return 'not allowed'
-            return self.change(c, {**self.rows[c], **dict(self.span(source, numbers[1:]))})
+            return self.change(c, {**self.rows[c], **dict(self.rows_in(source, numbers[1:]))})
         return self.answer(user, view, kind, numbers)
 
-    def span(self, c, limits):
+    def rows_in(self, c, limits):
         return sorted((k, v) for k, v in self.rows[c].items() if limits[0] <= k <= limits[1])
 
     def answer(self, user, view, kind, numbers):
@@ -60,9 +60,9 @@ class Store:
             a, b, *limits = numbers
             if a not in view or b not in view:
                 return 'not seen', 0
-            part = self.span(a, limits)
+            part = self.rows_in(a, limits)
             return shown([(k, v) for k, v in part if k in self.rows[b]]), len(part) + len(self.rows[b])
-        parts = [self.span(c, numbers) for c in view]
+        parts = [self.rows_in(c, numbers) for c in view]
         count = sum(len(p) for p in parts)
         if kind == 'rows':
             return ' '.join(shown(p) for p in parts), count

@@ -19,7 +19,7 @@ use Rattle.query.specs.declared.Query.{Query}
 use Rattle.query.specs.declared.Query.TheVariants.{Rows, Total, Shared}
 use Rattle.query.specs.Answers.{Answer, answer}
 use Rattle.query.specs.Laws.{parts_of, TellsWithRow as Right}
-use Rattle.query.specs.Looks.{looked_at, needed_for, room}
+use Rattle.query.specs.Looks.{looked_at, needed_for}
 use Rattle.query.specs.Numbers.{outcome, row_after, read_answer, with_answer}
 use Rattle.query.proofs.Views.{has_head, has_tail, view_few}
 use Rattle.query.proofs.Seen.{same_map}
@@ -47,10 +47,6 @@ none_damaged p memory [] h = refl
 none_damaged p memory (c ∷ cs) h =
     lower_none (fault_at p memory c) (damaged p memory cs) (h c (has_head c cs)) (none_damaged p memory cs (λ d k. h d (has_tail c d cs k)))
 
-pub same_room : (r : Rules) (cs : List ℕ) → capacities r cs ≡ room r.capacity cs
-same_room r [] = refl
-same_room r (c ∷ cs) = ap (λ n. r.capacity c + n) (same_room r cs)
-
 -- with nothing out of bounds, a query is refused only for the length of its row
 abbrev by_length : ℕ → ℕ → Option Refusal
 by_length n long = cond (leb n long) None (Some (ShortRow long))
@@ -67,9 +63,9 @@ none_needed long = rw (le-leb 0 long (omega arith)) refl
 refusal_is : (r : Rules) (user : ℕ) (query : Query) (long : ℕ) →
     refusal_by long (needed_for r.capacity (r.view user) query) None ≡ by_length (needed r user query) long
 refusal_is r user (Rows range) long =
-    length_alone (32 + 2 * room r.capacity (r.view user)) long ∙ ap (λ (n : ℕ). by_length (32 + 2 * n) long) (sym (same_room r (r.view user)))
+    length_alone (32 + 2 * capacities r.capacity (r.view user)) long
 refusal_is r user (Total range) long =
-    length_alone (32 + 2 * room r.capacity (r.view user)) long ∙ ap (λ (n : ℕ). by_length (32 + 2 * n) long) (sym (same_room r (r.view user)))
+    length_alone (32 + 2 * capacities r.capacity (r.view user)) long
 refusal_is r user (Shared a b range) long = elim (cases_Bool (has (r.view user) a && has (r.view user) b)) [
   | inl e ↦ rw e (length_alone (32 + 2 * r.capacity a) long)
   | inr e ↦ rw e (none_needed long)
@@ -78,14 +74,12 @@ refusal_is r user (Shared a b range) long = elim (cases_Bool (has (r.view user) 
 long_enough : (r : Rules) (user : ℕ) (query : Query) (long : ℕ) → leb (needed r user query) long ≡ true →
     (n : ℕ) → needed_for r.capacity (r.view user) query ≡ Some n → n ≤ long
 long_enough r user (Rows range) long t n e =
-    let l : 32 + 2 * capacities r (r.view user) ≤ long = leb-true (32 + 2 * capacities r (r.view user)) long t in
-    let i = same_Some (32 + 2 * room r.capacity (r.view user)) n e in
-    let s = same_room r (r.view user) in
+    let l : 32 + 2 * capacities r.capacity (r.view user) ≤ long = leb-true (32 + 2 * capacities r.capacity (r.view user)) long t in
+    let i = same_Some (32 + 2 * capacities r.capacity (r.view user)) n e in
     omega arith
 long_enough r user (Total range) long t n e =
-    let l : 32 + 2 * capacities r (r.view user) ≤ long = leb-true (32 + 2 * capacities r (r.view user)) long t in
-    let i = same_Some (32 + 2 * room r.capacity (r.view user)) n e in
-    let s = same_room r (r.view user) in
+    let l : 32 + 2 * capacities r.capacity (r.view user) ≤ long = leb-true (32 + 2 * capacities r.capacity (r.view user)) long t in
+    let i = same_Some (32 + 2 * capacities r.capacity (r.view user)) n e in
     omega arith
 long_enough r user (Shared a b range) long t n e = elim (cases_Bool (has (r.view user) a && has (r.view user) b)) [
   | inl h ↦

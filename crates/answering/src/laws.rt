@@ -1,4 +1,4 @@
-// What it is to ask: each function carries a theorem, and does nothing else.
+// What it is to ask: each function carries theorems, and does nothing else.
 ghost use Rattle.answering.specs.Alike.{RestDoesNotShow};
 ghost use Rattle.answering.specs.Stay.{CompartmentsStay};
 ghost use Rattle.answering.specs.Tie.{QueriesAsModel, QueriesAsModelWithRow, RefusalsLeave};

@@ -35,21 +35,25 @@ filling capacity compartment version count = cond (nat_le count capacity) (raisi
 abbrev pub EmptyHolds : Type 0
 EmptyHolds = (capacity : ℕ) → Holds capacity 0 [] (replicate (2 + 2 * capacity) 0)
 
+-- such a part is in bounds, and the check gives its number of rows
 abbrev pub CheckCounts : Type 0
 CheckCounts =
     (capacity version : ℕ) (rows : List Row) (part : List ℕ) → Holds capacity version rows part
     → ((start : ℕ) → checked start part ≡ Ok (length rows)) × (slice_index part 0 ≡ version)
 
+-- and these are its rows
 abbrev pub RowsAreFlat : Type 0
 RowsAreFlat =
     (capacity version : ℕ) (rows : List Row) (part : List ℕ) → Holds capacity version rows part
     → rows_part (length rows) part ≡ flat rows
 
+-- a write tells whether there is room for the row and the version may rise
 abbrev pub WriteTells : Type 0
 WriteTells =
     (capacity version start compartment : ℕ) (row : Row) (rows : List Row) (part : List ℕ) → Holds capacity version rows part
     → write_told start compartment row part ≡ filling capacity compartment version (length (put row rows))
 
+-- and a part where it is done holds the rows with this one, one version on
 abbrev pub WriteHolds : Type 0
 WriteHolds =
     (capacity version start compartment : ℕ) (row : Row) (rows : List Row) (part : List ℕ) → Holds capacity version rows part
@@ -59,11 +63,13 @@ WriteHolds =
 abbrev pub WriteRefused : Type 0
 WriteRefused = (start compartment : ℕ) (row : Row) (part : List ℕ) → is_ok (write_told start compartment row part) ≡ false → write_after row part ≡ part
 
+-- a delete tells whether there is a row with the key and the version may rise
 abbrev pub DeleteTells : Type 0
 DeleteTells =
     (capacity version start compartment key : ℕ) (rows : List Row) (part : List ℕ) → Holds capacity version rows part
     → delete_told start compartment key part ≡ cond (has_key key rows) (raising compartment version) (Err (NoRow key))
 
+-- and a part where it is done holds the rows without it, one version on
 abbrev pub DeleteHolds : Type 0
 DeleteHolds =
     (capacity version start compartment key : ℕ) (rows : List Row) (part : List ℕ) → Holds capacity version rows part
@@ -72,11 +78,13 @@ DeleteHolds =
 abbrev pub DeleteRefused : Type 0
 DeleteRefused = (start compartment key : ℕ) (part : List ℕ) → is_ok (delete_told start compartment key part) ≡ false → delete_after key part ≡ part
 
+-- a raise tells whether there is room for so many rows and the version may rise
 abbrev pub RaiseTells : Type 0
 RaiseTells =
     (capacity version compartment count : ℕ) (rows : List Row) (part : List ℕ) → Holds capacity version rows part
     → raise_told compartment count part ≡ filling capacity compartment version count
 
+-- and sets the two numbers, and nothing else
 abbrev pub RaiseLeaves : Type 0
 RaiseLeaves =
     (capacity version compartment count : ℕ) (rows : List Row) (part : List ℕ) → Holds capacity version rows part

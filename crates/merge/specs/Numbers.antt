@@ -29,6 +29,7 @@ planned from source into destination range = record {
 abbrev pub numbers : Part → List ℕ → List ℕ
 numbers part m = take (part.start + 2 * part.count - part.start) (drop part.start m)
 
+-- the plan of a copy, where both parts lie within memory
 abbrev pub plan : Part → Part → KeyRange → List ℕ → Option Copying
 plan source destination range m =
     cond (lies_within source.start source.count (length m))
@@ -100,5 +101,6 @@ spread c m =
     paste m (c.destination.start + 2 * c.total) (drop (c.destination.start + 2 * c.destination.count) m)
     (c.destination.start + 2 * c.destination.count + 2 * c.behind - (c.destination.start + 2 * c.destination.count))
 
+-- memory with the rows merged, where they fit
 abbrev pub merged_into : Copying → List ℕ → List ℕ
 merged_into c m = cond (fits c (length m)) (merging c.total c (spread c m)) m

@@ -42,13 +42,13 @@ module _ (p q : Rules) (n most : ℕ) (same : Same p q n) (valid : Valid p n mos
   user_there : (u : ℕ) → there p u ≡ true → u < p.users
   user_there u e = ltb-true u p.users e
 
-  capacities_alike : (cs : List ℕ) → ((c : ℕ) → has cs c ≡ true → p.capacity c ≡ q.capacity c) → capacities p cs ≡ capacities q cs
+  capacities_alike : (cs : List ℕ) → ((c : ℕ) → has cs c ≡ true → p.capacity c ≡ q.capacity c) → capacities p.capacity cs ≡ capacities q.capacity cs
   capacities_alike [] each = refl
   capacities_alike (c ∷ cs) each =
       let e = each c (has_head c cs) in let i = capacities_alike cs (λ d h. each d (has_tail c d cs h)) in rw (e, i) refl
 
-  view_capacities : (u : ℕ) → u < p.users → capacities p (p.view u) ≡ capacities q (q.view u)
-  view_capacities u h = capacities_alike (p.view u) (λ c. seen_capacity u c h) ∙ ap (capacities q) (same.view u h)
+  view_capacities : (u : ℕ) → u < p.users → capacities p.capacity (p.view u) ≡ capacities q.capacity (q.view u)
+  view_capacities u h = capacities_alike (p.view u) (λ c. seen_capacity u c h) ∙ ap (capacities q.capacity) (same.view u h)
 
   needed_alike : (u : ℕ) (x : Query) → u < p.users → needed p u x ≡ needed q u x
   needed_alike u (Rows range) h = rw (view_capacities u h) refl

@@ -10,6 +10,7 @@ use Rattle.policy.specs.declared.refusal.Refusal.TheVariants.{NoUser, NoFlow, No
 use Rattle.query.specs.declared.Query.{Query}
 use Rattle.query.specs.declared.Query.TheVariants.{Rows, Total, Shared}
 use Rattle.query.specs.Answers.{Answer, lists, total, list, not_seen, answer, cost}
+pub use Rattle.query.specs.Looks.{capacities}
 pub use Rattle.cache.specs.declared.Kept.{Kept}
 pub use Rattle.cache.specs.declared.Kept.TheVariants.{Rows as kept_rows, Total as kept_total, Shared as kept_shared, NotSeen as kept_not_seen}
 pub use Rattle.cache.specs.Entries.{Entry, find_exact as find}
@@ -32,6 +33,7 @@ pub record Call : Type 0 where
   pub request : Request
   pub lent : ℕ
 
+-- the call of a request, with an answer row of this length
 abbrev pub lend : Request → ℕ → Call
 lend request lent = record { request = request; lent = lent }
 
@@ -48,6 +50,7 @@ there p user = nat_lt user p.users
 
 -- an entry is a query that was worked out, the versions of what the user sees by then, and what is kept of the answer;
 -- `find` is what the newest entry with the query and the versions keeps
+
 -- the versions of the compartments in the user's view, in its order
 abbrev pub versions_seen : Rules → State → ℕ → List ℕ
 versions_seen p s user = map s.version (p.view user)
@@ -72,14 +75,10 @@ recall kept_not_seen again = not_seen
 
 -- WHAT IS TOLD
 
-abbrev pub capacities : Rules → List ℕ → ℕ
-capacities p [] = 0
-capacities p (c ∷ cs) = p.capacity c + capacities p cs
-
 -- how long a row has to be lent for a query; to be told 'not seen' needs none
 abbrev pub needed : Rules → ℕ → Query → ℕ
-needed p user (Rows range) = 32 + 2 * capacities p (p.view user)
-needed p user (Total range) = 32 + 2 * capacities p (p.view user)
+needed p user (Rows range) = 32 + 2 * capacities p.capacity (p.view user)
+needed p user (Total range) = 32 + 2 * capacities p.capacity (p.view user)
 needed p user (Shared a b range) = cond (sees p user a && sees p user b) (32 + 2 * p.capacity a) 0
 
 -- a compartment changes, unless its version is as high as it may be

@@ -21,6 +21,7 @@ EndsBy (Ok x) why = why ≡ None
 EndsBy (Err (Refused refusal)) why = why ≡ Some refusal
 EndsBy (Err OutOfMemory) why = Unit {0}
 
+-- a text and how playing ended, as one; nothing where memory ran out
 abbrev pub played_as : String Global → Result (Unit {0}) Stop → Result Played AllocError
 played_as text (Ok x) = Ok (record { text = text; refused = None })
 played_as text (Err (Refused refusal)) = Ok (record { text = text; refused = Some refusal })

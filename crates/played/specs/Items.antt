@@ -34,6 +34,7 @@ abbrev pub outcomes : ℕ → List ℕ → List (Result Item Refusal)
 outcomes zero bytes = []
 outcomes (suc n) bytes = cond (length bytes == 0) [] (outcomes_by (outcomes n) bytes (next_in bytes))
 
+-- what is left of an iterator over them
 abbrev pub left : Items → List (Result Item Refusal)
 left it = outcomes (length it.bytes.now) it.bytes.now
 
@@ -53,6 +54,7 @@ end_in (Err why ∷ xs) = Some why
 abbrev pub requests_of : List ℕ → List ℕ
 requests_of bytes = drop (size (policy_layout bytes)) bytes
 
+-- all that comes behind the policy of a trace
 abbrev pub outcomes_of : List ℕ → List (Result Item Refusal)
 outcomes_of bytes = outcomes (length (requests_of bytes)) (requests_of bytes)
 

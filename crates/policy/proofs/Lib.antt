@@ -1,4 +1,4 @@
--- Lemmas on policies, from one step of a search to the laws.
+-- Lemmas on policies, and the laws.
 pub mod Steps
 pub mod Judging
 pub mod Reading

@@ -1,5 +1,5 @@
 -- Proofs of the laws of policies.
-use Rattle.std.proofs.Common.{◌≡◌, ℕ, zero, suc, ◌+◌, ◌<◌, ◌≤◌, Bool, true, false, not, ◌&&◌, ◌||◌, eqb, ltb, List, [], ◌∷◌, length, get_or, take, drop, Some, None, Decides, Option, sym, refl, ◌∙◌, inl, inr, le_of_suc-le-suc, not-suc-le-zero, arith}
+use Rattle.std.proofs.Common.{◌≡◌, ℕ, zero, suc, ◌+◌, ◌<◌, ◌≤◌, ◌⊎◌, Bool, true, false, not, ◌&&◌, ◌||◌, eqb, ltb, List, [], ◌∷◌, length, get_or, take, drop, Some, None, Decides, Option, sym, refl, ◌∙◌, inl, inr, le_of_suc-le-suc, not-suc-le-zero, arith}
 use Rattle.std.proofs.lemmas.List.{get_or-take, get_or-drop, length-take-le, length-map}
 use Rattle.std.proofs.lemmas.Bool.{and_parts, cases_Bool, ltb-true, lt-ltb, or_parts, or_cases, eqb-true, eqb-false, not-true, both_ways}
 use Rattle.std.proofs.lemmas.Bool.Decides.{Decides-below_and}
@@ -12,6 +12,7 @@ use Rattle.policy.specs.Numbers.{first, at_fault, places, bad_view, users_in, co
 use Rattle.policy.specs.Rules.{has, sees, all_see}
 use Rattle.policy.specs.Views.{view_of, distinct_below, valid, nobody}
 use Rattle.policy.specs.declared.Policy.{Policy}
+use Rattle.policy.specs.declared.refusal.Refusal.{Refusal}
 use Rattle.policy.specs.declared.refusal.Refusal.TheVariants.{OutOfBounds, BadView}
 use Rattle.policy.specs.declared.contract.Contract.{Contract}
 use Rattle.policy.proofs.Judging.{first_none, first_some}
@@ -33,6 +34,12 @@ by_none None None e = (refl, refl)
 by_none None (Some w) e = (refl, cc)
 by_none (Some q) v e = (cc, cc)
 
+by_either : (o v : Option ℕ) (r : Refusal) → or_else (option_map (λ q. OutOfBounds q) o) (option_map (λ w. BadView w) v) ≡ Some r →
+    ((p : ℕ) × (r ≡ OutOfBounds p)) ⊎ ((u : ℕ) × (r ≡ BadView u))
+by_either None None r e = cc
+by_either None (Some u) r e = inr (u, cc)
+by_either (Some p) v r e = inl (p, cc)
+
 pub judged_lowest : JudgedLowest
 judged_lowest most xs =
     let f = first (at_fault most xs) 0 (places xs) in
@@ -45,6 +52,7 @@ judged_lowest most xs =
       (λ e.
           let b = by_none f v e in
           ((λ k h. first_none (at_fault most xs) 0 (places xs) b.0 k (omega arith) (omega arith)), λ u h. first_none (bad_view xs) 0 (users_in xs) b.1 u (omega arith) (omega arith))),
+      by_either f v,
     )
 
 distinct_there : (n : ℕ) (xs : List ℕ) → distinct_below n xs ≡ true → (i : ℕ) → i < length xs → get_or xs i 0 < n

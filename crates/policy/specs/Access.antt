@@ -11,21 +11,27 @@ use Rattle.policy.specs.declared.Policy.{Policy}
 use Rattle.policy.specs.declared.refusal.Refusal.{Refusal}
 use Rattle.policy.specs.declared.refusal.Refusal.TheVariants.{OutOfBounds}
 
+-- the contracts of those who are there
 abbrev pub contracts_of : Policy → List Contract
 contracts_of p = take p.users p.contracts
 
+-- and the places of the compartments that are
 abbrev pub places_of : Policy → List Place
 places_of p = take p.compartments p.places
 
+-- how many rows each of these may hold
 abbrev pub capacities_of : Policy → List ℕ
 capacities_of p = capacities_in (places_of p)
 
+-- a policy as rules: plain numbers and lists
 abbrev pub rules_of : Policy → Rules
 rules_of p = rules_from p.users (contracts_of p) (capacities_of p)
 
+-- the contract of a user who is there
 abbrev pub contract_at : Policy → ℕ → Option Contract
 contract_at p u = cond (nat_lt u p.users) (Some (slice_index_or p.contracts u nobody)) None
 
+-- rows may flow between compartments that are there
 abbrev pub may_flow : Policy → ℕ → ℕ → Bool
 may_flow p a b = nat_lt a p.compartments && (nat_lt b p.compartments && flows (rules_of p) a b)
 
@@ -41,6 +47,7 @@ may_copy p u c = nat_lt u p.users && (sees p u c && flows p c (p.writes u))
 abbrev pub place_in : Policy → ℕ → Place
 place_in p c = record { start = slice_index (starts_from 0 (capacities_of p)) c; capacity = slice_index (capacities_of p) c }
 
+-- where a compartment that is there lies
 abbrev pub place_at : Policy → ℕ → Option Place
 place_at p c = cond (nat_lt c p.compartments) (Some (place_in p c)) None
 
@@ -56,6 +63,7 @@ written_at p u = cond (nat_lt u p.users) (Some (written_in p u)) None
 abbrev pub cache_at : Policy → ℕ → Option ℕ
 cache_at p u = cond (nat_lt u p.users) (Some (end_from 0 (capacities_of p) + 192 * u)) None
 
+-- how long memory must be: behind the caches of all users it ends
 abbrev pub memory_length : Policy → ℕ
 memory_length p = end_from 0 (capacities_of p) + 192 * p.users
 

@@ -1,11 +1,12 @@
 -- What a policy promises, in the words of its subject.
-use Rattle.std.specs.Prelude.{◌≡◌, ℕ, ◌+◌, ◌<◌, ◌≤◌, true, false, List, length, Some, None, ◌≢◌, slice_index}
+use Rattle.std.specs.Prelude.{◌≡◌, ℕ, ◌+◌, ◌<◌, ◌≤◌, ◌⊎◌, true, false, List, length, Some, None, ◌≢◌, slice_index}
 use Rattle.policy.specs.Access.{rules_of, capacities_of}
 use Rattle.policy.specs.Layout.{size, starts_from, end_from}
 use Rattle.policy.specs.Numbers.{at_fault, places, bad_view, users_in, compartments_in, judged, rules_in}
 use Rattle.policy.specs.Read.{Reads}
 use Rattle.policy.specs.Rules.{Rules, sees, flows, Sound}
 use Rattle.policy.specs.declared.Policy.{Policy}
+use Rattle.policy.specs.declared.refusal.Refusal.{Refusal}
 use Rattle.policy.specs.declared.refusal.Refusal.TheVariants.{OutOfBounds, BadView}
 
 -- no number is at fault
@@ -13,12 +14,13 @@ abbrev pub Faultless : ℕ → List ℕ → Type 0
 Faultless most xs = (k : ℕ) → k < places xs → at_fault most xs k ≡ false
 
 -- a refusal names the lowest place at fault; else, where no number is at fault, the lowest user with a bad view;
--- and what is not refused has neither
+-- what is not refused has neither; and there is no other refusal
 abbrev pub JudgedLowest : Type 0
 JudgedLowest = (most : ℕ) (xs : List ℕ) →
     ((p : ℕ) → judged most xs ≡ Some (OutOfBounds p) → (p < places xs) × (at_fault most xs p ≡ true) × ((k : ℕ) → k < p → at_fault most xs k ≡ false))
     × ((u : ℕ) → judged most xs ≡ Some (BadView u) → Faultless most xs × (u < users_in xs) × (bad_view xs u ≡ true) × ((k : ℕ) → k < u → bad_view xs k ≡ false))
     × (judged most xs ≡ None → Faultless most xs × ((u : ℕ) → u < users_in xs → bad_view xs u ≡ false))
+    × ((r : Refusal) → judged most xs ≡ Some r → ((p : ℕ) × (r ≡ OutOfBounds p)) ⊎ ((u : ℕ) × (r ≡ BadView u)))
 
 -- everybody sees compartments that are there, none twice, and the one in which they write; capacities are bounded
 pub record Valid (p : Rules) (compartments most : ℕ) : Type 0 where
@@ -31,13 +33,14 @@ pub record Valid (p : Rules) (compartments most : ℕ) : Type 0 where
 abbrev pub PoliciesValid : Type 0
 PoliciesValid = (p : Policy) → Valid (rules_of p) p.compartments 4096
 
--- a policy that was read has the rules of its numbers
+-- rules that are the same for users and compartments that are there
 pub record Same (p q : Rules) (compartments : ℕ) : Type 0 where
   pub users : p.users ≡ q.users
   pub view : (u : ℕ) → u < p.users → p.view u ≡ q.view u
   pub writes : (u : ℕ) → u < p.users → p.writes u ≡ q.writes u
   pub capacity : (c : ℕ) → c < compartments → p.capacity c ≡ q.capacity c
 
+-- a policy that was read has the rules of its numbers
 abbrev pub ReadsRules : Type 0
 ReadsRules = (xs : List ℕ) (p : Policy) → Reads xs p → Same (rules_of p) (rules_in xs) (compartments_in xs)
 
@@ -47,7 +50,7 @@ FlowsBothWays = (p : Rules) (a b : ℕ) →
     (flows p a b ≡ true → (u : ℕ) → u < p.users → sees p u b ≡ true → sees p u a ≡ true)
     × (((u : ℕ) → u < p.users → sees p u b ≡ true → sees p u a ≡ true) → flows p a b ≡ true)
 
--- rows that flowed on, step by step, are seen by whoever sees where they are now
+-- every compartment flows to itself, and what flows on from b to c may flow from a to c
 abbrev pub FlowsDown : Type 0
 FlowsDown = (p : Rules) (a b c : ℕ) → (flows p a a ≡ true) × (flows p a b ≡ true → flows p b c ≡ true → flows p a c ≡ true)
 

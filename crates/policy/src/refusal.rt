@@ -3,7 +3,7 @@
 // A refusal of the policy, of a request, or of what a request asks.
 #[derive(Clone, Copy, PartialEq, Eq, Debug)]
 pub enum Refusal {
-    // Lent numbers are cut short, or a count among them is out of bounds.
+    // Lent numbers are cut short, or a number among them is out of bounds.
     OutOfBounds { place: usize },
     // A user sees a compartment twice or one that isn't there, or doesn't see the one in which they write.
     BadView { user: usize },

@@ -1,4 +1,4 @@
-// How many users and compartments a policy may have, and how much room each needs.
+// How many users and compartments a policy may have, how many numbers each takes, and the largest capacity.
 ghost use Rattle.std.specs.Prelude.{◌≡◌, ◌≤◌};
 ghost use Rattle.policy.specs.Numbers.{user_at};
 

@@ -1,4 +1,4 @@
--- What a reader opens first.
+-- What the contracts of this crate cite.
 pub mod Traces
 pub mod Promises
 pub mod Contents

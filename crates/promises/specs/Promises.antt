@@ -42,7 +42,7 @@ RightAnswers =
     tells p (after p (opened p memory) made) (Ask user query) row
     ≡ answered (answer ((rules_of p).view user) (run (rules_of p) limit empty (map call_of made)).rows query) (examined (rules_of p) limit (map call_of made) user query)
 
--- The same three with what the answer rows hold afterwards: it is told too.
+-- Noninterference, two traces and right answers with what the answer rows hold afterwards, which is told too.
 abbrev pub NoninterferenceWithRows : Type 0
 NoninterferenceWithRows =
     (p : Policy) (v : ℕ) (memory : List ℕ) (made : List Made) → memory_length p ≤ length memory → AllByRecursion Possible made →

@@ -18,7 +18,7 @@ pub record Made : Type 0 where
   pub request : Request
   pub row : List ℕ
 
--- keys and amounts are below 2^32, as the code's types have them
+-- a row that is written has key and amount below 2^32, as the code's types have them
 abbrev pub Typed : Request → Type 0
 Typed (Write user row) = Brought row
 Typed (Delete user key) = Unit {0}

@@ -1,4 +1,4 @@
-// What the store promises of every list of requests: each function carries a theorem, and does nothing else.
+// What the store promises of every list of requests: each function carries theorems, and does nothing else.
 #![tactic(auto)]
 
 ghost use Rattle.promises.specs.Promises.{Noninterference, NoninterferenceWithRows, TwoTraces, TwoTracesWithRows, FollowsTheModel, RightAnswers, RightAnswersWithRow};

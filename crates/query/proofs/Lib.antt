@@ -1,4 +1,4 @@
--- Lemmas on queries; the last has the laws.
+-- Lemmas on queries, and the laws.
 pub mod Steps
 pub mod Views
 pub mod Seen

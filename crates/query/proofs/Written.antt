@@ -13,7 +13,7 @@ use Rattle.rows.proofs.Theorems.{range_is_rows_in, range_rises}
 use Rattle.policy.specs.Rules.{has}
 use Rattle.query.specs.declared.Query.TheVariants.{Rows, Total, Shared}
 use Rattle.query.specs.Answers.{lists, list, lists_of, count_all, sum_all}
-use Rattle.query.specs.Looks.{room}
+use Rattle.query.specs.Looks.{capacities}
 use Rattle.query.specs.Numbers.{count, counts, count_in, amount_in, cut, common, lengths, fits, all_rows, rows_outcome, total_outcome, list_outcome, unseen}
 use Rattle.query.specs.Laws.{Kept, parts_of, AnswersTold, RowsHoldAnswers, NeverRefused, LentIsSeen, CostsAreRows}
 use Rattle.query.proofs.Views.{has_head, has_tail}
@@ -83,14 +83,14 @@ fits_from ps long h k = and_from (leb (length ps) 16) (leb (32 + lengths ps) lon
 
 -- parts within their capacities fit into a row that is as long as needed
 module _ (capacity : ℕ → ℕ) (part : ℕ → List ℕ) where
-  lengths_small : (cs : List ℕ) → ((c : ℕ) → has cs c ≡ true → length (part c) ≤ 2 * capacity c) → lengths (map part cs) ≤ 2 * room capacity cs
+  lengths_small : (cs : List ℕ) → ((c : ℕ) → has cs c ≡ true → length (part c) ≤ 2 * capacity c) → lengths (map part cs) ≤ 2 * capacities capacity cs
   lengths_small [] h = omega arith
   lengths_small (c ∷ cs) h =
       let i = lengths_small cs (λ (d : ℕ) (k : has cs d ≡ true). h d (has_tail c d cs k)) in
       let l = h c (has_head c cs) in
       omega arith
 
-  all_fit : (cs : List ℕ) (long : ℕ) → length cs ≤ 16 → ((c : ℕ) → has cs c ≡ true → length (part c) ≤ 2 * capacity c) → 32 + 2 * room capacity cs ≤ long
+  all_fit : (cs : List ℕ) (long : ℕ) → length cs ≤ 16 → ((c : ℕ) → has cs c ≡ true → length (part c) ≤ 2 * capacity c) → 32 + 2 * capacities capacity cs ≤ long
       → fits (map part cs) long ≡ true
   all_fit cs long few h l =
       let n : length (map part cs) ≡ length cs = length-map cs part in

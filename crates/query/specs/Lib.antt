@@ -1,4 +1,4 @@
--- What the contracts of this crate cite.
+-- What the contracts of this crate cite, and the laws of it.
 pub mod Query
 pub mod Answers
 pub mod Looks

@@ -15,12 +15,12 @@ abbrev pub places_of : LookedAt → List ℕ
 places_of l = l.compartments.items
 
 -- the capacities of some compartments, added up
-abbrev pub room : (ℕ → ℕ) → List ℕ → ℕ
-room capacity [] = 0
-room capacity (c ∷ cs) = capacity c + room capacity cs
+abbrev pub capacities : (ℕ → ℕ) → List ℕ → ℕ
+capacities capacity [] = 0
+capacities capacity (c ∷ cs) = capacity c + capacities capacity cs
 
 -- how long the row must be: a header of 32, and two numbers for each row that the answer may have; none where it is not looked at
 abbrev pub needed_for : (ℕ → ℕ) → List ℕ → Query → Option ℕ
-needed_for capacity view (Rows range) = Some (32 + 2 * room capacity view)
-needed_for capacity view (Total range) = Some (32 + 2 * room capacity view)
+needed_for capacity view (Rows range) = Some (32 + 2 * capacities capacity view)
+needed_for capacity view (Total range) = Some (32 + 2 * capacities capacity view)
 needed_for capacity view (Shared a b range) = cond (has view a && has view b) (Some (32 + 2 * capacity a)) None

@@ -2,7 +2,7 @@
 ghost use Rattle.std.specs.Prelude.{◌≡◌, ◌*◌, ◌≤◌};
 ghost use Rattle.policy.specs.Access.{rules_of};
 ghost use Rattle.policy.specs.Views.{view_of};
-ghost use Rattle.query.specs.Looks.{room, needed_for};
+ghost use Rattle.query.specs.Looks.{capacities, needed_for};
 
 use crate::looked::sees_both;
 use crate::{HEADER, Query};
@@ -13,7 +13,7 @@ pub fn needed(policy: &Policy, contract: &Contract, query: Query) -> Option<usiz
     ensures { result ≡ needed_for (rules_of policy.now).capacity (view_of contract.now) query }
 {
     match query {
-        Query::Rows { .. } | Query::Total { .. } => Some(HEADER + 2 * room(policy, contract)),
+        Query::Rows { .. } | Query::Total { .. } => Some(HEADER + 2 * capacities(policy, contract)),
         Query::Shared { a, b, .. } => {
             sees_both(contract, a, b).then(|| HEADER + 2 * capacity(policy, a))
         }
@@ -21,8 +21,8 @@ pub fn needed(policy: &Policy, contract: &Contract, query: Query) -> Option<usiz
 }
 
 // Added up by hand: with `map` and `sum`, the proof does not learn that the closure's calls leave the policy as it is.
-fn room(policy: &Policy, contract: &Contract) -> usize
-    ensures value { result ≡ room (rules_of policy.now).capacity (view_of contract.now) }
+fn capacities(policy: &Policy, contract: &Contract) -> usize
+    ensures value { result ≡ capacities (rules_of policy.now).capacity (view_of contract.now) }
     ensures small { result ≤ 65536 }
 {
     let mut sum = 0;

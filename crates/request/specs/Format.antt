@@ -52,6 +52,7 @@ AllBelow xs [] = Unit {0}
 AllBelow [] (b ∷ bs) = ⊥
 AllBelow (x ∷ xs) (b ∷ bs) = (x < b) × AllBelow xs bs
 
+-- all numbers of a request are below the bounds of their places
 abbrev pub WithinBounds : Request → Type 0
 WithinBounds q = AllBelow (numbers_of q) (bounds (numbers_of q))
 

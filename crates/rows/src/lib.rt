@@ -39,7 +39,7 @@ pub fn pairs(rows: &[u64]) -> &[[u64; 2]]
     rows.as_chunks().0
 }
 
-// How many keys are smaller than `key`, by halving: exact for every content, and the number of smaller keys where rows rise.
+// Where the halving for `key` comes out, for every content; where rows rise, how many keys are smaller.
 pub fn position(rows: &[u64], key: u64) -> usize
     ensures value { result ≡ position key rows.now }
     ensures within { 2 * result ≤ length rows.now }

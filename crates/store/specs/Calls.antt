@@ -35,19 +35,23 @@ abbrev pub change_memory : (List ℕ → List ℕ) → Option Written → List �
 change_memory after None memory = memory
 change_memory after (Some w) memory = with_part w.place (after (part w.place memory)) memory
 
+-- what a write tells: memory that is too short is refused first
 abbrev pub wrote_told : Policy → ℕ → Row → List ℕ → Result (Unit {0}) Refusal
 wrote_told p user row memory =
     cond (short p memory) (Err (OutOfBounds (length memory)))
     (change_told (λ w. write_told w.place.start w.compartment row) user (written_at p user) memory)
 
+-- and leaves
 abbrev pub wrote : Policy → ℕ → Row → List ℕ → List ℕ
 wrote p user row memory = cond (short p memory) memory (change_memory (write_after row) (written_at p user) memory)
 
+-- what a delete tells
 abbrev pub deleted_told : Policy → ℕ → ℕ → List ℕ → Result (Unit {0}) Refusal
 deleted_told p user key memory =
     cond (short p memory) (Err (OutOfBounds (length memory)))
     (change_told (λ w. delete_told w.place.start w.compartment key) user (written_at p user) memory)
 
+-- and leaves
 abbrev pub deleted : Policy → ℕ → ℕ → List ℕ → List ℕ
 deleted p user key memory = cond (short p memory) memory (change_memory (delete_after key) (written_at p user) memory)
 
@@ -115,11 +119,13 @@ copy_memory c range None from memory = memory
 copy_memory c range (Some w) None memory = memory
 copy_memory c range (Some w) (Some from) memory = cond (w.compartment == c) (itself_memory w memory) (between_memory from w range memory)
 
+-- what a copy tells: not allowed, whatever is in the compartments, and else what copying tells
 abbrev pub copied_told : Policy → ℕ → ℕ → KeyRange → List ℕ → Result (Unit {0}) Refusal
 copied_told p user c range memory =
     cond (short p memory) (Err (OutOfBounds (length memory)))
     (cond (may_copy (rules_of p) user c) (copy_told c range (written_at p user) (place_at p c) memory) (Err (NoFlow c)))
 
+-- and leaves
 abbrev pub copied : Policy → ℕ → ℕ → KeyRange → List ℕ → List ℕ
 copied p user c range memory =
     cond (short p memory) memory (cond (may_copy (rules_of p) user c) (copy_memory c range (written_at p user) (place_at p c) memory) memory)

@@ -42,16 +42,19 @@ pub record Follows (p : Policy) (s : State) (call : Call) (told : Result (Unit {
   pub tells : told ≡ as_result (response (rules_of p) limit s call)
   pub holds : Holds p (step (rules_of p) limit s call) after
 
+-- a write follows the model, of a row as requests bring it,
 abbrev pub WriteFollows : Type 0
 WriteFollows =
     (p : Policy) (s : State) (memory : List ℕ) (user lent : ℕ) (row : Row) → Holds p s memory → Brought row →
     Follows p s (lend (Write user row) lent) (wrote_told p user row memory) (wrote p user row memory)
 
+-- and so does a delete,
 abbrev pub DeleteFollows : Type 0
 DeleteFollows =
     (p : Policy) (s : State) (memory : List ℕ) (user lent key : ℕ) → Holds p s memory →
     Follows p s (lend (Delete user key) lent) (deleted_told p user key memory) (deleted p user key memory)
 
+-- a copy,
 abbrev pub CopyFollows : Type 0
 CopyFollows =
     (p : Policy) (s : State) (memory : List ℕ) (user lent c : ℕ) (range : KeyRange) → Holds p s memory →
@@ -63,6 +66,7 @@ pub record QueryFollows (p : Policy) (s : State) (memory row : List ℕ) (user :
       (response (rules_of p) limit s (lend (Ask user query) (length row)))
   pub holds : Holds p (step (rules_of p) limit s (lend (Ask user query) (length row))) (asked_memory p memory (length row) user query)
 
+-- and a query.
 abbrev pub AskFollows : Type 0
 AskFollows = (p : Policy) (s : State) (memory row : List ℕ) (user : ℕ) (query : Query) → Holds p s memory → QueryFollows p s memory row user query
 

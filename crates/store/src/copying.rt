@@ -3,7 +3,7 @@ ghost use Rattle.std.specs.Prelude.{◌≡◌, ◌≤◌, length};
 ghost use Rattle.store.specs.Memory.{end};
 ghost use Rattle.store.specs.Calls.{counts_told, between_told, between_memory, itself_told, itself_memory};
 
-use crate::part::room_of;
+use crate::part::part_of;
 use merge::Part;
 use policy::{Place, Refusal, Written};
 use rows::KeyRange;
@@ -29,8 +29,8 @@ impl Between<'_> {
     {
         let from = self.from;
         let into = self.written.place;
-        let source = compartment::check(&self.memory[room_of(from)], from.start);
-        let destination = compartment::check(&self.memory[room_of(into)], into.start);
+        let source = compartment::check(&self.memory[part_of(from)], from.start);
+        let destination = compartment::check(&self.memory[part_of(into)], into.start);
         match (source, destination) {
             (Ok(source), Ok(destination)) => Ok(Counts {
                 source,
@@ -68,7 +68,7 @@ impl Between<'_> {
         })?;
         let rows = counts.destination - copying.destination.count + copying.total;
         compartment::raise(
-            &mut memory[room_of(written.place)],
+            &mut memory[part_of(written.place)],
             written.compartment,
             rows,
         )?;
@@ -85,6 +85,6 @@ pub(crate) fn into_itself(memory: &mut [u64], written: Written) -> Result<(), Re
     ensures after { memory.new ≡ itself_memory written memory.old }
 {
     let place = written.place;
-    let rows = compartment::check(&memory[room_of(place)], place.start)?;
-    compartment::raise(&mut memory[room_of(place)], written.compartment, rows)
+    let rows = compartment::check(&memory[part_of(place)], place.start)?;
+    compartment::raise(&mut memory[part_of(place)], written.compartment, rows)
 }

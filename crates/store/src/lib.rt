@@ -16,7 +16,7 @@ mod reply;
 
 pub use answering::ask;
 use copying::Between;
-use part::room_of;
+use part::part_of;
 use policy::{Policy, Refusal, Written};
 pub use reply::Reply;
 use request::Request;
@@ -41,7 +41,7 @@ pub fn write(policy: &Policy, memory: &mut [u64], user: usize, row: Row) -> Resu
     ensures after { memory.new ≡ wrote policy.now user row memory.old }
 {
     let written = written_in(policy, memory, user)?;
-    compartment::write(&mut memory[room_of(written.place)], written, row)
+    compartment::write(&mut memory[part_of(written.place)], written, row)
 }
 
 // The row with the key goes from there.
@@ -50,7 +50,7 @@ pub fn delete(policy: &Policy, memory: &mut [u64], user: usize, key: u32) -> Res
     ensures after { memory.new ≡ deleted policy.now user key memory.old }
 {
     let written = written_in(policy, memory, user)?;
-    compartment::delete(&mut memory[room_of(written.place)], written, key)
+    compartment::delete(&mut memory[part_of(written.place)], written, key)
 }
 
 // The compartment in which the user writes, within memory.

@@ -7,7 +7,7 @@ use std::ops::Range;
 
 // The version, the number of rows, and the room for rows, one behind the other.
 // `answering` cuts the same numbers out of memory: a public method of policy's `Place` would need a `requires` that its end is a number.
-pub(crate) fn room_of(place: Place) -> Range<usize>
+pub(crate) fn part_of(place: Place) -> Range<usize>
     requires { end place < 2 ^ 64 }
     ensures { result ≡ record { start = place.start; end = end place } }
 {

@@ -1,4 +1,4 @@
--- Stores that talk, each the model but for one thing.
+-- Stores that talk, and one that changes something where it refuses, each the model but for one thing.
 use Rattle.std.specs.Prelude.{ℕ, zero, suc, Bool, false, cond, not, ◌&&◌, ◌||◌, leb, List, [], ◌∷◌, map, length, Some, None, Option, ◌==◌, nat_eq, nat_le}
 use Rattle.rows.specs.declared.Row.{Row}
 use Rattle.rows.specs.declared.KeyRange.{KeyRange}
@@ -69,9 +69,9 @@ one_cache p = record { start = empty; response = λ s call. response p most s (a
 -- ONE CAPACITY: a write has room as long as all compartments together have.
 abbrev pub one_capacity : Rules → Machine State
 one_capacity = edited (λ p s request r.
-    let room = capacities p (everywhere p) in
-    let fits = leb (rows_everywhere p (next p s request)) room in
-    on_write (λ user row. cond (there p user) (cond fits (changing most s (p.writes user)) (refused (NoRoom room))) r) r request) most
+    let capacity = capacities p.capacity (everywhere p) in
+    let fits = leb (rows_everywhere p (next p s request)) capacity in
+    on_write (λ user row. cond (there p user) (cond fits (changing most s (p.writes user)) (refused (NoRoom capacity))) r) r request) most
 
 -- ALLOWED IF EMPTY: a copy for which there is no row is done, whatever the user sees.
 abbrev pub allowed_if_empty : Rules → Machine State

@@ -1,4 +1,4 @@
--- That each of these stores talks: a trace, what the user is told in it, and what without the calls that aren't relevant to them.
+-- That these stores talk: a trace, what the user is told in it, and what without the calls that aren't relevant to them; and what the last one changes.
 use Rattle.std.specs.Prelude.{◌≡◌, ℕ, List, [], ◌∷◌, map}
 use Rattle.rows.specs.declared.Row.{Row}
 use Rattle.rows.specs.declared.KeyRange.{KeyRange}

@@ -77,25 +77,25 @@ memory_enough bytes e =
     omega (arith, end_bound 0 (take n rest) each, few n rest, b.users, b.compartments)
 
 module _ (p : Rules) where
-  all_bound : (n : ℕ) → ((c : ℕ) → c < n → p.capacity c ≤ 64) → (cs : List ℕ) → distinct_below n cs ≡ true → capacities p cs ≤ 64 * length cs
+  all_bound : (n : ℕ) → ((c : ℕ) → c < n → p.capacity c ≤ 64) → (cs : List ℕ) → distinct_below n cs ≡ true → capacities p.capacity cs ≤ 64 * length cs
   all_bound n each [] e = omega arith
   all_bound n each (c ∷ cs) e =
       let t = and_parts (ltb c n) _ e in
       omega (arith, each c (ltb-true c n t.0), all_bound n each cs (and_parts (not (has cs c)) (distinct_below n cs) t.1).1)
 
   -- a compartment that is seen is among those that are summed
-  among : (cs : List ℕ) (a : ℕ) → has cs a ≡ true → p.capacity a ≤ capacities p cs
+  among : (cs : List ℕ) (a : ℕ) → has cs a ≡ true → p.capacity a ≤ capacities p.capacity cs
   among [] a e = absurd (both_ways false refl e)
   among (c ∷ cs) a e = elim (or_cases (eqb c a) (has cs a) e) [
     | inl s ↦ let f = ap p.capacity (eqb-true c a s) in omega arith
     | inr s ↦ omega (arith, among cs a s)
   ]
 
-  needed_bound : (user : ℕ) (query : Query) → needed p user query ≤ 32 + 2 * capacities p (p.view user)
+  needed_bound : (user : ℕ) (query : Query) → needed p user query ≤ 32 + 2 * capacities p.capacity (p.view user)
   needed_bound user (Rows range) = omega arith
   needed_bound user (Total range) = omega arith
   needed_bound user (Shared a b range) =
-      cond_both (sees p user a && sees p user b) (32 + 2 * p.capacity a) 0 (λ n. n ≤ 32 + 2 * capacities p (p.view user))
+      cond_both (sees p user a && sees p user b) (32 + 2 * p.capacity a) 0 (λ n. n ≤ 32 + 2 * capacities p.capacity (p.view user))
       (λ t. omega (arith, among (p.view user) a (and_parts (sees p user a) (sees p user b) t).0)) (λ t. omega arith)
 
 pub row_enough : RowEnough

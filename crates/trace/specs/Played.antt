@@ -29,9 +29,11 @@ text_by a None bytes = told_text a bytes
 abbrev pub opening : List ℕ → Option Refusal
 opening bytes = judged 64 (policy_of bytes)
 
+-- what is printed for everyone
 abbrev pub text_of : List ℕ → List ℕ
 text_of bytes = text_by None (opening bytes) bytes
 
+-- and how the trace ends
 abbrev pub end_of : List ℕ → Option Refusal
 end_of bytes = end_by (opening bytes) bytes
 
@@ -43,10 +45,12 @@ memory_for xs = end_from 0 (take (compartments_in xs) (drop (user_at (users_in x
 abbrev pub short_of : ℕ → List ℕ → Option Refusal
 short_of long bytes = cond (nat_lt long (memory_for (policy_of bytes))) (Some (OutOfBounds long)) None
 
+-- a refused policy, or memory that is too short
 abbrev pub opening_by : Option Refusal → ℕ → List ℕ → Option Refusal
 opening_by (Some why) long bytes = Some why
 opening_by None long bytes = short_of long bytes
 
+-- why nothing is played, with lent memory of this length
 abbrev pub opening_with : ℕ → List ℕ → Option Refusal
 opening_with long bytes = opening_by (opening bytes) long bytes
 
@@ -65,6 +69,7 @@ pub record Purged (v : ℕ) (bytes before now : List ℕ) : Type 0 where
   pub reads : Reads (policy_of bytes) policy
   pub left : now ≡ after policy (opened policy before) (purged policy v (made_in (items_of bytes)))
 
+-- where nothing is played memory stays as it was
 abbrev pub LeftBy : Option Refusal → ℕ → List ℕ → List ℕ → List ℕ → Type 0
 LeftBy (Some why) v bytes before now = now ≡ before
 LeftBy None v bytes before now = Purged v bytes before now

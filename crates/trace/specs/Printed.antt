@@ -19,6 +19,7 @@ abbrev pub item_tells : Rules → State → Item → Response
 item_tells p s (Request r) = response p limit s (lend r lent)
 item_tells p s (NoRequest user place) = model.refused (refusal.NoRequest place)
 
+-- the state after it
 abbrev pub item_step : Rules → State → Item → State
 item_step p s (Request r) = step p limit s (lend r lent)
 item_step p s (NoRequest user place) = s
@@ -37,6 +38,7 @@ lines p s (i ∷ is) = record { user = from i; response = item_tells p s i } ∷
 abbrev pub Audience : Type 0
 Audience = Option ℕ
 
+-- is this user told to them?
 abbrev pub hears : Audience → ℕ → Bool
 hears None user = true
 hears (Some v) user = user == v
@@ -50,6 +52,7 @@ abbrev pub concerns_one : Rules → ℕ → Item → Bool
 concerns_one p v (Request r) = relevant p v (lend r lent)
 concerns_one p v (NoRequest user place) = user == v
 
+-- everything concerns everyone
 abbrev pub concerns : Rules → Audience → Item → Bool
 concerns p None i = true
 concerns p (Some v) i = concerns_one p v i

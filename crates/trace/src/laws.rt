@@ -1,7 +1,7 @@
 // The laws of what is lent along a trace, each on a contract.
 ghost use Rattle.trace.specs.Enough.{MemoryEnough, RowEnough, NeverShort};
 
-// No policy of a trace asks for more memory than 8224 numbers.
+// No policy of a trace asks for more memory than 8,224 numbers.
 pub fn memory_enough_stands()
     ensures { MemoryEnough }
 {}

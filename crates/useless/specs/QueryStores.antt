@@ -33,7 +33,7 @@ any_length = edited (λ p s request r.
 -- LONG ROW FIRST: a query is refused with a row that isn't long enough for all that the user sees.
 abbrev pub long_row_first : Rules → Machine State
 long_row_first p =
-    let short : Call → Bool = λ call. on_query (λ user query. there p user && nat_lt call.lent (32 + 2 * capacities p (p.view user))) false call.request in
+    let short : Call → Bool = λ call. on_query (λ user query. there p user && nat_lt call.lent (32 + 2 * capacities p.capacity (p.view user))) false call.request in
     record {
       start = empty;
       response = λ s call. cond (short call) (refused (ShortRow call.lent)) (response p most s call);

@@ -1,4 +1,4 @@
-// Stores that are the model but for one thing, and useless: of each a statement of the model fails; and the model, of which they all hold.
+// Stores that are the model but for one thing, and useless: of each a statement of the model fails; and the model, of which all these statements hold.
 // Every function carries a theorem, and does nothing else.
 #![tactic(auto)]
 

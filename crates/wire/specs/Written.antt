@@ -41,10 +41,11 @@ RequestStands =
     (bytes : List ℕ) (q : Request) (n : ℕ) → AllLess 256 bytes → next_in bytes ≡ Next.Request q n →
     WithinBounds q × (n ≡ length (bytes_of q)) × (bytes ≡ bytes_of q ++ drop n bytes)
 
--- the numbers of a policy that is written are read again: those of all users, and the capacities
+-- a policy in bytes: the counts, the numbers of all users, and the capacities in two bytes each
 abbrev pub policy_bytes : ℕ → ℕ → List ℕ → List ℕ → List ℕ
 policy_bytes users compartments views capacities = users ∷ compartments ∷ (views ++ written 2 capacities)
 
+-- the numbers of a policy that is written are read again, and behind its bytes the requests begin
 abbrev pub PolicyRoundTrip : Type 0
 PolicyRoundTrip =
     (users compartments : ℕ) (views capacities rest : List ℕ) →

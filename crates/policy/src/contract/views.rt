@@ -7,7 +7,7 @@ use super::Contract;
 use crate::{ArrayList, COMPARTMENTS};
 
 impl Contract {
-    // Whether it may stand is judged apart.
+    // A view, and the compartment that is written in; whether it may stand is judged apart.
     pub fn new(view: ArrayList<u64, COMPARTMENTS>, writes: u64) -> Contract
         ensures view { view_of result ≡ view.items }
         ensures writes { result.writes ≡ writes }

@@ -1,4 +1,4 @@
--- The theorems that the contract names.
+-- The theorem that the contract names.
 use Rattle.query.proofs.Written.{costs_are_rows}
 use Rattle.query.proofs.laws.costs_stands.Goals as goal
 

@@ -1,4 +1,4 @@
--- The theorems that the contract names.
+-- The theorem that the contract names.
 use Rattle.rows.proofs.Keys.{same_rows}
 use Rattle.rows.proofs.laws.rows_stands.Goals as goal
 

@@ -1,9 +1,9 @@
 -- Rules that are the same decide the same.
 use Rattle.std.proofs.Common.{◌≡◌, ℕ, ◌<◌, Bool, ◌&&◌, ltb, refl, ap, ◌∙◌, inl, inr}
 use Rattle.std.proofs.lemmas.Bool.{cases_Bool, ltb-true}
-use Rattle.policy.specs.Access.{may_see, may_copy}
+use Rattle.policy.specs.Access.{may_copy}
 use Rattle.policy.specs.Laws.{Same}
-use Rattle.policy.specs.Rules.{Rules, all_see, sees, flows}
+use Rattle.policy.specs.Rules.{Rules, all_see, flows}
 use Rattle.policy.proofs.Steps.{all_see_same}
 
 module _ (p q : Rules) (n : ℕ) (same : Same p q n) where
@@ -18,9 +18,6 @@ module _ (p q : Rules) (n : ℕ) (same : Same p q n) where
 
   pub flows_alike : (a b : ℕ) → flows p a b ≡ flows q a b
   flows_alike a b = all_see_same p q a b p.users same.view ∙ ap (all_see q a b) same.users
-
-  pub may_see_alike : (u c : ℕ) → may_see p u c ≡ may_see q u c
-  may_see_alike u c = among_users u (sees p u c) (sees q u c) (λ h. rw (same.view u h) refl)
 
   pub may_copy_alike : (u c : ℕ) → may_copy p u c ≡ may_copy q u c
   may_copy_alike u c =

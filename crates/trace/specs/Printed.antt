@@ -52,7 +52,7 @@ abbrev pub concerns_one : Rules → ℕ → Item → Bool
 concerns_one p v (Request r) = relevant p v (lend r lent)
 concerns_one p v (NoRequest user place) = user == v
 
--- everything concerns everyone
+-- what an audience is played: what concerns one user, or everything
 abbrev pub concerns : Rules → Audience → Item → Bool
 concerns p None i = true
 concerns p (Some v) i = concerns_one p v i

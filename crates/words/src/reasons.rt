@@ -15,7 +15,6 @@ impl fmt::Display for Reason {
     ghost output = { λ r. Some (refusal_bytes r.refusal) };
 
     fn fmt<W: fmt::Write>(&self, f: &mut fmt::Formatter<W>) -> fmt::Result {
-        // `trace` has two of these texts too: this crate needs the store's model and the cache, and a trace goes without.
         let refusal = self.refusal;
         match refusal {
             Refusal::NoRequest { place } => write!(f, "no deed at {place}"),

@@ -1,5 +1,5 @@
 -- A user's cache as a list of entries, newest first: what is found among them, and how memory holds them.
-use Rattle.std.specs.Prelude.{◌≡◌, ℕ, ◌-◌, ◌*◌, Bool, cond, ◌&&◌, ◌⊎◌, List, [], ◌∷◌, ◌++◌, length, replicate, Some, None, Option}
+use Rattle.std.specs.Prelude.{◌≡◌, ℕ, ◌-◌, ◌*◌, Bool, if◌then◌else◌, ◌&&◌, ◌⊎◌, List, [], ◌∷◌, ◌++◌, length, replicate, Some, None, Option}
 use Rattle.query.specs.declared.Query.{Query}
 use Rattle.query.specs.Answers.{same_query}
 use Rattle.cache.specs.declared.Kept.{Kept}
@@ -27,13 +27,13 @@ fits query versions e = same_query query e.query && same_numbers (sixteen versio
 -- what the newest entry with the query and the versions keeps
 abbrev pub find : Query → List ℕ → List Entry → Option Kept
 find query versions [] = None
-find query versions (e ∷ es) = cond (fits query versions e) (Some e.kept) (find query versions es)
+find query versions (e ∷ es) = if fits query versions e then Some e.kept else find query versions es
 
 -- the same with all versions counted: there is no difference where each entry has as many as are looked for, and at most sixteen
 abbrev pub find_exact : Query → List ℕ → List Entry → Option Kept
 find_exact query versions [] = None
 find_exact query versions (e ∷ es) =
-    cond (same_query query e.query && same_numbers versions e.versions) (Some e.kept) (find_exact query versions es)
+    if same_query query e.query && same_numbers versions e.versions then Some e.kept else find_exact query versions es
 
 -- every entry has so many versions: one for each compartment in the view
 abbrev pub OfView : ℕ → List Entry → Type 0

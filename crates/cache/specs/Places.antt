@@ -1,5 +1,5 @@
 -- A user's cache as a list of numbers: places of 24, newest first, and what looking up and keeping make of them, damaged or not.
-use Rattle.std.specs.Prelude.{ℕ, zero, suc, ◌-◌, ◌*◌, ◌/◌, Bool, true, false, cond, ◌&&◌, List, [], ◌∷◌, ◌++◌, length, take, drop, replicate, Some, None, Option, ◌==◌, nat_lt, slice_index}
+use Rattle.std.specs.Prelude.{ℕ, zero, suc, ◌-◌, ◌*◌, ◌/◌, Bool, true, false, if◌then◌else◌, ◌&&◌, List, [], ◌∷◌, ◌++◌, length, take, drop, replicate, Some, None, Option, ◌==◌, nat_lt, slice_index}
 use Rattle.std.specs.Option.{option_or}
 use Rattle.query.specs.declared.Query.{Query}
 use Rattle.query.specs.declared.Query.TheVariants.{Rows as AskRows, Total as AskTotal, Shared as AskShared}
@@ -30,10 +30,10 @@ kept_numbers NotSeen = 4 ∷ 0 ∷ 0 ∷ []
 -- and back: numbers that no answer has keep nothing
 abbrev pub kept_of : ℕ → ℕ → ℕ → Option Kept
 kept_of kind rows amount =
-    cond (kind == 1 && (rows == 0 && amount == 0)) (Some Rows)
-    (cond (kind == 2) (Some (Total rows amount))
-    (cond (kind == 3 && (rows == 0 && amount == 0)) (Some Shared)
-    (cond (kind == 4 && (rows == 0 && amount == 0)) (Some NotSeen) None)))
+    if kind == 1 && (rows == 0 && amount == 0) then Some Rows
+    else if kind == 2 then Some (Total rows amount)
+    else if kind == 3 && (rows == 0 && amount == 0) then Some Shared
+    else if kind == 4 && (rows == 0 && amount == 0) then Some NotSeen else None
 
 abbrev pub same_numbers : List ℕ → List ℕ → Bool
 same_numbers [] [] = true
@@ -43,7 +43,10 @@ same_numbers (x ∷ xs) (y ∷ ys) = x == y && same_numbers xs ys
 
 -- what a place keeps, if it has the key
 abbrev pub kept_in : List ℕ → List ℕ → Option Kept
-kept_in key place = cond (same_numbers key (take 21 place)) (kept_of (slice_index place 21) (slice_index place 22) (slice_index place 23)) None
+kept_in key place =
+    if same_numbers key (take 21 place)
+    then kept_of (slice_index place 21) (slice_index place 22) (slice_index place 23)
+    else None
 
 -- the first of so many places that keeps something under the key
 abbrev pub found_in : ℕ → List ℕ → List ℕ → Option Kept
@@ -69,4 +72,5 @@ moved_back all place places = place ++ (take (all - 24) places ++ drop all place
 -- the new place, all but the oldest of the others, and what is left behind whole places; a list too short for one stays
 abbrev pub keep_in : Query → List ℕ → Kept → List ℕ → List ℕ
 keep_in query versions kept places =
-    cond (nat_lt (length places) 24) places (moved_back (length places / 24 * 24) (place_numbers query versions kept) places)
+    if nat_lt (length places) 24 then places
+    else moved_back (length places / 24 * 24) (place_numbers query versions kept) places

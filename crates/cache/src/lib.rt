@@ -6,7 +6,7 @@ ghost use Rattle.std.specs.Result.{result_ok};
 ghost use Rattle.cache.specs.Kept.{kept_from};
 ghost use Rattle.cache.specs.Places.{query_numbers, key_numbers, kept_numbers, kept_of, kept_in, found_in, look_up, moved_back, keep_in};
 
-use policy::COMPARTMENTS;
+use base::COMPARTMENTS;
 use query::{Answered, Query};
 use rows::KeyRange;
 

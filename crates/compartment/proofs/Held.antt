@@ -12,8 +12,8 @@ use Rattle.rows.specs.Numbers.{in_front, put_count, put_into, delete_count, dele
 use Rattle.rows.proofs.Orders.{length_without, all_put, all_without}
 use Rattle.rows.proofs.Places.{take_flat, drop_flat}
 use Rattle.rows.proofs.Theorems.{length_in_front, put_is_put, put_rises, delete_is_without, delete_rises}
-use Rattle.policy.specs.declared.refusal.Refusal.{Refusal}
-use Rattle.policy.specs.declared.refusal.Refusal.TheVariants.{NoRoom, NoRow}
+use Rattle.base.specs.declared.refusal.Refusal.{Refusal}
+use Rattle.base.specs.declared.refusal.Refusal.TheVariants.{NoRoom, NoRow}
 use Rattle.compartment.specs.Parts.{limit, capacity, sound, fault, told_by, after_by, checked, rows_part, write_told, write_after, delete_told, delete_after, raise_told, raise_after}
 use Rattle.compartment.specs.Holding.{Brought, Holds, raising, filling, EmptyHolds, CheckCounts, RowsAreFlat, WriteTells, WriteHolds, WriteRefused, DeleteTells, DeleteHolds, DeleteRefused, RaiseTells, RaiseLeaves, RaiseHolds, RaiseRefused, RefilledHolds}
 

@@ -1,11 +1,11 @@
 -- A part that holds a version and rows, and what the calls mean there: what is told and held is said of rows, without memory.
-use Rattle.std.specs.Prelude.{◌≡◌, ℕ, suc, ◌+◌, ◌*◌, ◌^◌, ◌<◌, ◌≤◌, false, cond, List, [], ◌∷◌, ◌++◌, length, drop, replicate, is_ok, Ok, Err, Result, nat_le, nat_lt, slice_index}
+use Rattle.std.specs.Prelude.{◌≡◌, ℕ, suc, ◌+◌, ◌*◌, ◌^◌, ◌<◌, ◌≤◌, false, if◌then◌else◌, List, [], ◌∷◌, ◌++◌, length, drop, replicate, is_ok, Ok, Err, Result, nat_le, nat_lt, slice_index}
 use Rattle.rows.specs.declared.Row.{Row}
 use Rattle.rows.specs.Rows.{Rising, put, without, has_key}
 use Rattle.rows.specs.Halving.{flat}
 use Rattle.rows.specs.Numbers.{in_front}
-use Rattle.policy.specs.declared.refusal.Refusal.{Refusal}
-use Rattle.policy.specs.declared.refusal.Refusal.TheVariants.{NoRoom, NoRow, LastVersion}
+use Rattle.base.specs.declared.refusal.Refusal.{Refusal}
+use Rattle.base.specs.declared.refusal.Refusal.TheVariants.{NoRoom, NoRow, LastVersion}
 use Rattle.compartment.specs.Parts.{limit, checked, rows_part, write_told, write_after, delete_told, delete_after, raise_told, raise_after}
 use Rattle.std.specs.List.{AllByRecursion}
 
@@ -25,11 +25,12 @@ pub record Holds (capacity version : ℕ) (rows : List Row) (part : List ℕ) : 
 
 -- a compartment changes, unless its version is as high as it may be
 abbrev pub raising : ℕ → ℕ → Result (Unit {0}) Refusal
-raising compartment version = cond (nat_lt (suc version) limit) (Ok tt) (Err (LastVersion compartment))
+raising compartment version = if nat_lt (suc version) limit then Ok tt else Err (LastVersion compartment)
 
 -- so many rows come into it, unless they are too many
 abbrev pub filling : ℕ → ℕ → ℕ → ℕ → Result (Unit {0}) Refusal
-filling capacity compartment version count = cond (nat_le count capacity) (raising compartment version) (Err (NoRoom capacity))
+filling capacity compartment version count =
+    if nat_le count capacity then raising compartment version else Err (NoRoom capacity)
 
 -- zeros hold no rows
 abbrev pub EmptyHolds : Type 0
@@ -67,7 +68,8 @@ WriteRefused = (start compartment : ℕ) (row : Row) (part : List ℕ) → is_ok
 abbrev pub DeleteTells : Type 0
 DeleteTells =
     (capacity version start compartment key : ℕ) (rows : List Row) (part : List ℕ) → Holds capacity version rows part
-    → delete_told start compartment key part ≡ cond (has_key key rows) (raising compartment version) (Err (NoRow key))
+    → delete_told start compartment key part ≡ (if has_key key rows then raising compartment version
+    else Err (NoRow key))
 
 -- and a part where it is done holds the rows without it, one version on
 abbrev pub DeleteHolds : Type 0

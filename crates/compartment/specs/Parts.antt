@@ -1,9 +1,9 @@
 -- What each call tells of a compartment's part of memory and makes of it, for every content: the version, the number of rows, the rows.
-use Rattle.std.specs.Prelude.{ℕ, ◌+◌, ◌-◌, ◌*◌, ◌/◌, ◌^◌, min, Bool, cond, ◌&&◌, List, [], ◌++◌, length, take, drop, Some, None, Ok, Err, Option, Result, nat_le, nat_lt, slice_index, slice_set}
+use Rattle.std.specs.Prelude.{ℕ, ◌+◌, ◌-◌, ◌*◌, ◌/◌, ◌^◌, min, Bool, if◌then◌else◌, ◌&&◌, List, [], ◌++◌, length, take, drop, Some, None, Ok, Err, Option, Result, nat_le, nat_lt, slice_index, slice_set}
 use Rattle.rows.specs.declared.Row.{Row}
 use Rattle.rows.specs.Numbers.{put_count, put_into, delete_count, delete_from}
-use Rattle.policy.specs.declared.refusal.Refusal.{Refusal}
-use Rattle.policy.specs.declared.refusal.Refusal.TheVariants.{OutOfBounds, NoRoom, NoRow, LastVersion}
+use Rattle.base.specs.declared.refusal.Refusal.{Refusal}
+use Rattle.base.specs.declared.refusal.Refusal.TheVariants.{OutOfBounds, NoRoom, NoRow, LastVersion}
 
 -- every version is below it
 abbrev pub limit : ℕ
@@ -23,18 +23,18 @@ sound part = counted part && nat_le (slice_index part 1) (capacity part)
 
 -- which of the two is at fault, by its place in memory; a part that begins at the last place of all has no second one
 abbrev pub fault : ℕ → List ℕ → Refusal
-fault start part = OutOfBounds (cond (counted part) (min (start + 1) (2 ^ 64 - 1)) start)
+fault start part = OutOfBounds (if counted part then min (start + 1) (2 ^ 64 - 1) else start)
 
 abbrev pub checked : ℕ → List ℕ → Result ℕ Refusal
-checked start part = cond (sound part) (Ok (slice_index part 1)) (Err (fault start part))
+checked start part = if sound part then Ok (slice_index part 1) else Err (fault start part)
 
 -- the rows, where there are as many
 abbrev pub rows_part : ℕ → List ℕ → List ℕ
-rows_part count part = cond (nat_le (2 + 2 * count) (length part)) (take (2 * count) (drop 2 part)) []
+rows_part count part = if nat_le (2 + 2 * count) (length part) then take (2 * count) (drop 2 part) else []
 
 -- one more change, unless the version is as high as it may be
 abbrev pub changing : ℕ → List ℕ → Result (Unit {0}) Refusal
-changing compartment part = cond (nat_lt (slice_index part 0 + 1) limit) (Ok tt) (Err (LastVersion compartment))
+changing compartment part = if nat_lt (slice_index part 0 + 1) limit then Ok tt else Err (LastVersion compartment)
 
 -- the version is raised by one, and the number of rows set
 abbrev pub raised : ℕ → ℕ → List ℕ → List ℕ
@@ -48,20 +48,20 @@ told_by compartment refusal part (Some count) = changing compartment part
 -- and the part afterwards, from the one with the changed rows
 abbrev pub after_by : List ℕ → List ℕ → Option ℕ → List ℕ
 after_by changed part None = part
-after_by changed part (Some count) = cond (nat_lt (slice_index part 0 + 1) limit) (raised (slice_index part 0) count changed) part
+after_by changed part (Some count) =
+    if nat_lt (slice_index part 0 + 1) limit then raised (slice_index part 0) count changed else part
 
 -- what any change tells, by the refusal at a capacity and the number of rows after it, and the part afterwards
 abbrev pub change_told : ℕ → ℕ → (ℕ → Refusal) → (ℕ → List ℕ → Option ℕ) → List ℕ → Result (Unit {0}) Refusal
 change_told start compartment refusal count part =
-    cond (sound part)
-    (told_by compartment (refusal (capacity part)) part (count (slice_index part 1) (drop 2 part)))
-    (Err (fault start part))
+    if sound part then told_by compartment (refusal (capacity part)) part (count (slice_index part 1) (drop 2 part))
+    else Err (fault start part)
 
 abbrev pub change_after : (ℕ → List ℕ → Option ℕ) → (ℕ → List ℕ → List ℕ) → List ℕ → List ℕ
 change_after count rows part =
-    cond (sound part)
-    (after_by (take 2 part ++ rows (slice_index part 1) (drop 2 part)) part (count (slice_index part 1) (drop 2 part)))
-    part
+    if sound part
+    then after_by (take 2 part ++ rows (slice_index part 1) (drop 2 part)) part (count (slice_index part 1) (drop 2 part))
+    else part
 
 abbrev pub write_told : ℕ → ℕ → Row → List ℕ → Result (Unit {0}) Refusal
 write_told start compartment row part = change_told start compartment (λ capacity. NoRoom capacity) (λ count rows. put_count count row rows) part
@@ -77,8 +77,11 @@ delete_after key part = change_after (λ count rows. delete_count count key rows
 
 -- a change to a number of rows, which are written later; it judges only whether there is room for them, and whether the version may rise
 abbrev pub raise_told : ℕ → ℕ → List ℕ → Result (Unit {0}) Refusal
-raise_told compartment count part = cond (nat_le (2 + 2 * count) (length part)) (changing compartment part) (Err (NoRoom (capacity part)))
+raise_told compartment count part =
+    if nat_le (2 + 2 * count) (length part) then changing compartment part else Err (NoRoom (capacity part))
 
 abbrev pub raise_after : ℕ → List ℕ → List ℕ
 raise_after count part =
-    cond (nat_le (2 + 2 * count) (length part) && nat_lt (slice_index part 0 + 1) limit) (raised (slice_index part 0) count part) part
+    if nat_le (2 + 2 * count) (length part) && nat_lt (slice_index part 0 + 1) limit
+    then raised (slice_index part 0) count part
+    else part

@@ -1,11 +1,11 @@
 // The changes that the rows of a compartment take.
 ghost use Rattle.std.specs.Prelude.{◌≡◌, ℕ, ◌*◌, ◌≤◌, List, Option, None, length, is_some};
 ghost use Rattle.rows.specs.Numbers.{put_count, put_into, delete_count, delete_from};
-ghost use Rattle.policy.specs.declared.refusal.Refusal.{Refusal as RefusalOf};
-ghost use Rattle.policy.specs.declared.refusal.Refusal.TheVariants.{NoRoom, NoRow};
+ghost use Rattle.base.specs.declared.refusal.Refusal.{Refusal as RefusalOf};
+ghost use Rattle.base.specs.declared.refusal.Refusal.TheVariants.{NoRoom, NoRow};
 ghost use Rattle.compartment.specs.Changes.{put_refused, delete_refused};
 
-use policy::Refusal;
+use base::Refusal;
 use rows::Row;
 
 // A change of the first `count` of some rows, which may be refused.

@@ -4,8 +4,9 @@
 ghost use Rattle.std.specs.Prelude.{◌≡◌, ◌+◌, ◌*◌, ◌^◌, ◌<◌, ◌≤◌, length, IfOk, slice_index};
 ghost use Rattle.compartment.specs.Parts.{checked, rows_part, change_told, change_after, write_told, write_after, delete_told, delete_after, raise_told, raise_after};
 
+use base::Refusal;
 use changes::{Change, Put, Without};
-use policy::{Refusal, VERSION_LIMIT, Written};
+use policy::{VERSION_LIMIT, Written};
 use rows::Row;
 
 mod changes;
@@ -105,7 +106,8 @@ pub fn raise(part: &mut [u64], compartment: u64, count: usize) -> Result<(), Ref
 #[cfg(test)]
 mod tests {
     use super::{delete, raise, rows_of, write};
-    use policy::{Place, Refusal, VERSION_LIMIT, Written};
+    use base::Refusal;
+    use policy::{Place, VERSION_LIMIT, Written};
     use rows::Row;
 
     const WRITTEN: Written = Written {

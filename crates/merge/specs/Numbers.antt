@@ -1,5 +1,5 @@
 -- What each call makes of memory, for every content, of rows that rise or not.
-use Rattle.std.specs.Prelude.{ℕ, zero, suc, ◌+◌, ◌-◌, ◌*◌, ◌/◌, ◌≤◌, Bool, cond, ◌&&◌, ◌||◌, List, length, take, drop, Some, None, Option, ◌==◌, nat_le, nat_lt, slice_index, slice_set}
+use Rattle.std.specs.Prelude.{ℕ, zero, suc, ◌+◌, ◌-◌, ◌*◌, ◌/◌, ◌≤◌, Bool, if◌then◌else◌, ◌&&◌, ◌||◌, List, length, take, drop, Some, None, Option, ◌==◌, nat_le, nat_lt, slice_index, slice_set}
 use Rattle.std.specs.declared.cmp.Ordering.{Ordering}
 use Rattle.std.specs.declared.cmp.Ordering.TheVariants.{Less, Equal, Greater}
 use Rattle.std.proofs.Math.Seq.{paste}
@@ -32,11 +32,11 @@ numbers part m = take (part.start + 2 * part.count - part.start) (drop part.star
 -- the plan of a copy, where both parts lie within memory
 abbrev pub plan : Part → Part → KeyRange → List ℕ → Option Copying
 plan source destination range m =
-    cond (lies_within source.start source.count (length m))
-    (cond (lies_within destination.start destination.count (length m))
-    (Some (planned (numbers source m) source.start (numbers destination m) destination.start range))
-    None)
-    None
+    if lies_within source.start source.count (length m)
+    then (if lies_within destination.start destination.count (length m)
+    then Some (planned (numbers source m) source.start (numbers destination m) destination.start range)
+    else None)
+    else None
 
 -- both parts lie within memory, apart from each other, and no row has to go
 abbrev pub fits : Copying → ℕ → Bool
@@ -65,7 +65,7 @@ replaces c m = nat_lt 0 c.destination.count && slice_index m (last_at c.source.s
 
 -- how the two compare: as less where no row of the destination is left
 abbrev pub compared : Copying → List ℕ → Ordering
-compared c m = cond (keeps c m) Greater (cond (replaces c m) Equal Less)
+compared c m = if keeps c m then Greater else if replaces c m then Equal else Less
 
 -- the row at one place is written to another
 abbrev pub moved : ℕ → ℕ → List ℕ → List ℕ
@@ -74,26 +74,30 @@ moved from to m = slice_set (slice_set m to (slice_index m from)) (to + 1) (slic
 -- what is left after a turn
 abbrev pub stepped : Copying → List ℕ → Copying
 stepped c m =
-    cond (keeps c m)
-    (record { source = c.source; destination = record { start = c.destination.start; count = c.destination.count - 1 }; behind = c.behind; total = c.total - 1 })
-    (record {
+    if keeps c m
+    then record { source = c.source; destination = record { start = c.destination.start; count = c.destination.count - 1 }; behind = c.behind; total = c.total - 1 }
+    else record {
       source = record { start = c.source.start; count = c.source.count - 1 };
-      destination = record { start = c.destination.start; count = cond (replaces c m) (c.destination.count - 1) c.destination.count };
+      destination = record {
+        start = c.destination.start;
+        count =
+            if replaces c m then c.destination.count - 1
+            else c.destination.count;
+      };
       behind = c.behind;
       total = c.total - 1;
-    })
+    }
 
 -- what memory holds then: the greater row stands at the last place left, the one to copy where keys are equal
 abbrev pub written : Copying → List ℕ → List ℕ
 written c m =
-    cond (keeps c m)
-    (moved (last_at c.destination.start c.destination.count) (last_at c.destination.start c.total) m)
-    (moved (last_at c.source.start c.source.count) (last_at c.destination.start c.total) m)
+    if keeps c m then moved (last_at c.destination.start c.destination.count) (last_at c.destination.start c.total) m
+    else moved (last_at c.source.start c.source.count) (last_at c.destination.start c.total) m
 
 -- turn after turn, one for each place, until no row to copy is left
 unfoldable pub merging : ℕ → Copying → List ℕ → List ℕ
 merging zero c m = m
-merging (suc places) c m = cond (nat_lt 0 c.source.count) (merging places (stepped c m) (written c m)) m
+merging (suc places) c m = if nat_lt 0 c.source.count then merging places (stepped c m) (written c m) else m
 
 -- the rows behind those of the destination move to where they will stand
 abbrev pub spread : Copying → List ℕ → List ℕ
@@ -103,4 +107,4 @@ spread c m =
 
 -- memory with the rows merged, where they fit
 abbrev pub merged_into : Copying → List ℕ → List ℕ
-merged_into c m = cond (fits c (length m)) (merging c.total c (spread c m)) m
+merged_into c m = if fits c (length m) then merging c.total c (spread c m) else m

@@ -1,11 +1,11 @@
 -- When changes are done, what they change, by key in the compartment that is written, and that nothing else is changed.
-use Rattle.std.specs.Prelude.{◌≡◌, ℕ, suc, ◌+◌, Bool, true, false, cond, ◌&&◌, ◌||◌, List, length, Some, None, ◌==◌, ◌≢◌, nat_le, nat_lt}
+use Rattle.std.specs.Prelude.{◌≡◌, ℕ, suc, ◌+◌, Bool, true, false, if◌then◌else◌, ◌&&◌, ◌||◌, List, length, Some, None, ◌==◌, ◌≢◌, nat_le, nat_lt}
 use Rattle.rows.specs.declared.Row.{Row}
 use Rattle.rows.specs.declared.KeyRange.{KeyRange}
 use Rattle.rows.specs.Rows.{amount_of, has_key, rows_in, also_in}
 use Rattle.policy.specs.Rules.{Rules, sees, flows}
-use Rattle.policy.specs.declared.refusal.Refusal.{Refusal}
-use Rattle.policy.specs.declared.refusal.Refusal.TheVariants.{NoUser, NoFlow, NoRoom, NoRow}
+use Rattle.base.specs.declared.refusal.Refusal.{Refusal}
+use Rattle.base.specs.declared.refusal.Refusal.TheVariants.{NoUser, NoFlow, NoRoom, NoRow}
 use Rattle.request.specs.declared.Request.{Request}
 use Rattle.request.specs.declared.Request.TheVariants.{Write, Delete, Copy, Query as Ask}
 use Rattle.model.specs.Model.{State, Call, lend, done, refused, empty, who, asks, there, changing, response, step, run}
@@ -23,16 +23,16 @@ abbrev pub WriteTold : Type 0
 WriteTold = (p : Rules) (limit : ℕ) (calls : List Call) (user : ℕ) (row : Row) (lent : ℕ) →
     let s = run p limit empty calls in
     let c = p.writes user in
-    let change = cond (room_for_row p s c row) (changing limit s c) (refused (NoRoom (p.capacity c))) in
-    response p limit s (lend (Write user row) lent) ≡ cond (there p user) change (refused (NoUser user))
+    let change = if room_for_row p s c row then changing limit s c else refused (NoRoom (p.capacity c)) in
+    response p limit s (lend (Write user row) lent) ≡ (if there p user then change else refused (NoUser user))
 
 -- a delete, if its user is there, a row has the key, and the version may rise
 abbrev pub DeleteTold : Type 0
 DeleteTold = (p : Rules) (limit : ℕ) (calls : List Call) (user key lent : ℕ) →
     let s = run p limit empty calls in
     let c = p.writes user in
-    let change = cond (has_key key (s.rows c)) (changing limit s c) (refused (NoRow key)) in
-    response p limit s (lend (Delete user key) lent) ≡ cond (there p user) change (refused (NoUser user))
+    let change = if has_key key (s.rows c) then changing limit s c else refused (NoRow key) in
+    response p limit s (lend (Delete user key) lent) ≡ (if there p user then change else refused (NoUser user))
 
 -- a copy, if its user is there and sees the source, its rows may flow, there is room for them, and the version may rise
 abbrev pub CopyTold : Type 0
@@ -40,8 +40,10 @@ CopyTold = (p : Rules) (limit : ℕ) (calls : List Call) (user source : ℕ) (ra
     let s = run p limit empty calls in
     let c = p.writes user in
     let allowed = there p user && (sees p user source && flows p source c) in
-    let change = cond (room_for_rows p s c (rows_in range (s.rows source))) (changing limit s c) (refused (NoRoom (p.capacity c))) in
-    response p limit s (lend (Copy user source range) lent) ≡ cond allowed change (refused (NoFlow source))
+    let change =
+    if room_for_rows p s c (rows_in range (s.rows source)) then changing limit s c
+    else refused (NoRoom (p.capacity c)) in
+    response p limit s (lend (Copy user source range) lent) ≡ (if allowed then change else refused (NoFlow source))
 
 -- one compartment was changed once, and all else is as it was
 pub record ChangedOnce (s t : State) (c : ℕ) : Type 0 where
@@ -58,7 +60,8 @@ WriteEffect = (p : Rules) (limit : ℕ) (calls : List Call) (user : ℕ) (row : 
     let t = step p limit s call in
     let c = p.writes user in
     response p limit s call ≡ done →
-    ChangedOnce s t c × ((k : ℕ) → amount_of k (t.rows c) ≡ cond (row.key == k) (Some row.amount) (amount_of k (s.rows c)))
+    ChangedOnce s t c × ((k : ℕ) → amount_of k (t.rows c) ≡ (if row.key == k then Some row.amount
+    else amount_of k (s.rows c)))
 
 -- nothing for a key that is deleted,
 abbrev pub DeleteEffect : Type 0
@@ -67,7 +70,8 @@ DeleteEffect = (p : Rules) (limit : ℕ) (calls : List Call) (user key lent : �
     let call = lend (Delete user key) lent in
     let t = step p limit s call in
     let c = p.writes user in
-    response p limit s call ≡ done → ChangedOnce s t c × ((k : ℕ) → amount_of k (t.rows c) ≡ cond (key == k) None (amount_of k (s.rows c)))
+    response p limit s call ≡ done → ChangedOnce s t c × ((k : ℕ) → amount_of k (t.rows c) ≡ (if key == k then None
+    else amount_of k (s.rows c)))
 
 -- and for a key of the range that the source has, what it maps to there
 abbrev pub takes : KeyRange → List Row → ℕ → Bool
@@ -80,7 +84,8 @@ CopyEffect = (p : Rules) (limit : ℕ) (calls : List Call) (user source : ℕ) (
     let t = step p limit s call in
     let c = p.writes user in
     response p limit s call ≡ done →
-    ChangedOnce s t c × ((k : ℕ) → amount_of k (t.rows c) ≡ cond (takes range (s.rows source) k) (amount_of k (s.rows source)) (amount_of k (s.rows c)))
+    ChangedOnce s t c × ((k : ℕ) → amount_of k (t.rows c) ≡ (if takes range (s.rows source) k then amount_of k (s.rows source)
+    else amount_of k (s.rows c)))
 
 -- A REFUSAL CHANGES NOTHING.
 abbrev pub RefusalsChangeNothing : Type 0

@@ -1,5 +1,5 @@
 -- What has happened in a trace, as far as the rows examined depend on it: changes, and queries that were worked out. The cache has no part in this.
-use Rattle.std.specs.Prelude.{ℕ, zero, suc, Bool, true, false, cond, List, [], ◌∷◌, ◌==◌}
+use Rattle.std.specs.Prelude.{ℕ, zero, suc, Bool, true, false, if◌then◌else◌, List, [], ◌∷◌, ◌==◌}
 use Rattle.policy.specs.Rules.{Rules, sees}
 use Rattle.query.specs.declared.Query.{Query}
 use Rattle.query.specs.Answers.{same_query}
@@ -15,9 +15,11 @@ pub data Event : Type 0 where
 abbrev pub known_in : Rules → ℕ → Query → ℕ → List Event → Bool
 known_in p user query zero events = false
 known_in p user query (suc n) [] = false
-known_in p user query (suc n) (change c ∷ events) = cond (sees p user c) false (known_in p user query (suc n) events)
+known_in p user query (suc n) (change c ∷ events) =
+    if sees p user c then false else known_in p user query (suc n) events
 known_in p user query (suc n) (work other asked ∷ events) =
-    cond (other == user) (cond (same_query query asked) true (known_in p user query n events)) (known_in p user query (suc n) events)
+    if other == user then (if same_query query asked then true else known_in p user query n events)
+    else known_in p user query (suc n) events
 
 -- eight queries are known for each user
 abbrev pub known : Rules → ℕ → Query → List Event → Bool
@@ -28,10 +30,11 @@ abbrev pub noted : Rules → Request → List Event → List Event
 noted p (Write user row) events = change (p.writes user) ∷ events
 noted p (Delete user key) events = change (p.writes user) ∷ events
 noted p (Copy user compartment range) events = change (p.writes user) ∷ events
-noted p (Ask user query) events = cond (known p user query events) events (work user query ∷ events)
+noted p (Ask user query) events = if known p user query events then events else work user query ∷ events
 
 -- the events of a trace, the newest first, after those before it
 abbrev pub events_after : Rules → ℕ → State → List Event → List Call → List Event
 events_after p limit s events [] = events
 events_after p limit s events (call ∷ calls) =
-    events_after p limit (step p limit s call) (cond (accepted (response p limit s call)) (noted p call.request events) events) calls
+    events_after p limit (step p limit s call) (if accepted (response p limit s call) then noted p call.request events
+    else events) calls

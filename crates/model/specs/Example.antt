@@ -3,7 +3,7 @@ use Rattle.std.specs.Prelude.{◌≡◌, ℕ, zero, suc, true, false, List, [], 
 use Rattle.rows.specs.declared.Row.{Row}
 use Rattle.rows.specs.declared.KeyRange.{KeyRange}
 use Rattle.policy.specs.Rules.{Rules, Sound, flows}
-use Rattle.policy.specs.declared.refusal.Refusal.TheVariants.{NoFlow, NoRoom, NoRow}
+use Rattle.base.specs.declared.refusal.Refusal.TheVariants.{NoFlow, NoRoom, NoRow}
 use Rattle.query.specs.declared.Query.TheVariants.{Total, Shared}
 use Rattle.query.specs.Answers.{total, list, not_seen}
 use Rattle.request.specs.declared.Request.{Request}

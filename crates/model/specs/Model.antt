@@ -1,12 +1,12 @@
 -- The store as a state machine: what each request tells and what it changes. This is what a reader must believe.
-use Rattle.std.specs.Prelude.{ℕ, suc, ◌+◌, ◌*◌, Bool, true, false, cond, not, ◌&&◌, ◌||◌, List, [], ◌∷◌, map, length, take, Some, None, Option, ◌==◌, nat_le, nat_lt}
+use Rattle.std.specs.Prelude.{ℕ, suc, ◌+◌, ◌*◌, Bool, true, false, if◌then◌else◌, not, ◌&&◌, ◌||◌, List, [], ◌∷◌, map, length, take, Some, None, Option, ◌==◌, nat_le, nat_lt}
 use Rattle.rows.specs.declared.Row.{Row}
 use Rattle.rows.specs.declared.KeyRange.{KeyRange}
 use Rattle.rows.specs.Rows.{put, put_all, without, has_key, rows_in}
 use Rattle.policy.specs.Rules.{Rules, sees}
 pub use Rattle.policy.specs.Access.{may_copy}
-use Rattle.policy.specs.declared.refusal.Refusal.{Refusal}
-use Rattle.policy.specs.declared.refusal.Refusal.TheVariants.{NoUser, NoFlow, NoRoom, NoRow, ShortRow, LastVersion}
+use Rattle.base.specs.declared.refusal.Refusal.{Refusal}
+use Rattle.base.specs.declared.refusal.Refusal.TheVariants.{NoUser, NoFlow, NoRoom, NoRow, ShortRow, LastVersion}
 use Rattle.query.specs.declared.Query.{Query}
 use Rattle.query.specs.declared.Query.TheVariants.{Rows, Total, Shared}
 use Rattle.query.specs.Answers.{Answer, lists, total, list, not_seen, answer, cost}
@@ -79,15 +79,16 @@ recall kept_not_seen again = not_seen
 abbrev pub needed : Rules → ℕ → Query → ℕ
 needed p user (Rows range) = 32 + 2 * capacities p.capacity (p.view user)
 needed p user (Total range) = 32 + 2 * capacities p.capacity (p.view user)
-needed p user (Shared a b range) = cond (sees p user a && sees p user b) (32 + 2 * p.capacity a) 0
+needed p user (Shared a b range) = if sees p user a && sees p user b then 32 + 2 * p.capacity a else 0
 
 -- a compartment changes, unless its version is as high as it may be
 abbrev pub changing : ℕ → State → ℕ → Response
-changing limit s c = cond (nat_lt (suc (s.version c)) limit) done (refused (LastVersion c))
+changing limit s c = if nat_lt (suc (s.version c)) limit then done else refused (LastVersion c)
 
 -- new rows come into a compartment, unless they are too many
 abbrev pub filling : Rules → ℕ → State → ℕ → List Row → Response
-filling p limit s c new = cond (nat_le (length new) (p.capacity c)) (changing limit s c) (refused (NoRoom (p.capacity c)))
+filling p limit s c new =
+    if nat_le (length new) (p.capacity c) then changing limit s c else refused (NoRoom (p.capacity c))
 
 -- a query is answered from the cache, with no row examined, or worked out
 abbrev pub answering : Rules → State → ℕ → Query → Option Kept → Response
@@ -101,13 +102,20 @@ copied p s user compartment range = put_all (rows_in range (s.rows compartment))
 -- what a request tells, with a row of the length `lent`
 abbrev pub respond : Rules → ℕ → State → Request → ℕ → Response
 respond p limit s (Write user row) lent =
-    cond (there p user) (filling p limit s (p.writes user) (put row (s.rows (p.writes user)))) (refused (NoUser user))
+    if there p user then filling p limit s (p.writes user) (put row (s.rows (p.writes user)))
+    else refused (NoUser user)
 respond p limit s (Delete user key) lent =
-    cond (there p user) (cond (has_key key (s.rows (p.writes user))) (changing limit s (p.writes user)) (refused (NoRow key))) (refused (NoUser user))
+    if there p user
+    then (if has_key key (s.rows (p.writes user)) then changing limit s (p.writes user) else refused (NoRow key))
+    else refused (NoUser user)
 respond p limit s (Copy user compartment range) lent =
-    cond (may_copy p user compartment) (filling p limit s (p.writes user) (copied p s user compartment range)) (refused (NoFlow compartment))
+    if may_copy p user compartment then filling p limit s (p.writes user) (copied p s user compartment range)
+    else refused (NoFlow compartment)
 respond p limit s (Ask user query) lent =
-    cond (there p user) (cond (nat_le (needed p user query) lent) (answering p s user query (look_up p s user query)) (refused (ShortRow lent))) (refused (NoUser user))
+    if there p user
+    then (if nat_le (needed p user query) lent then answering p s user query (look_up p s user query)
+    else refused (ShortRow lent))
+    else refused (NoUser user)
 
 abbrev pub response : Rules → ℕ → State → Call → Response
 response p limit s call = respond p limit s call.request call.lent
@@ -122,7 +130,7 @@ accepted (answered a examined) = true
 
 -- a function with another value at one place
 abbrev pub with_at : {A : Type 0} → (ℕ → A) → ℕ → A → ℕ → A
-with_at f i a j = cond (i == j) a (f j)
+with_at f i a j = if i == j then a else f j
 
 -- a compartment with new rows, changed once more
 abbrev pub changed : State → ℕ → List Row → State
@@ -147,7 +155,7 @@ next p s (Ask user query) = remembered p s user query (look_up p s user query)
 
 -- a refusal changes nothing
 abbrev pub step : Rules → ℕ → State → Call → State
-step p limit s call = cond (accepted (response p limit s call)) (next p s call.request) s
+step p limit s call = if accepted (response p limit s call) then next p s call.request else s
 
 -- TRACES
 
@@ -165,7 +173,8 @@ responses p limit s (call ∷ calls) = response p limit s call ∷ responses p l
 abbrev pub told : Rules → ℕ → ℕ → State → List Call → List Response
 told p limit v s [] = []
 told p limit v s (call ∷ calls) =
-    cond (who call.request == v) (response p limit s call ∷ told p limit v (step p limit s call) calls) (told p limit v (step p limit s call) calls)
+    if who call.request == v then response p limit s call ∷ told p limit v (step p limit s call) calls
+    else told p limit v (step p limit s call) calls
 
 -- a call is relevant to a user if it is their own, or if somebody who is there may change by it what the user sees
 abbrev pub relevant : Rules → ℕ → Call → Bool
@@ -176,4 +185,4 @@ relevant p v call =
 -- the relevant calls alone
 abbrev pub purge : Rules → ℕ → List Call → List Call
 purge p v [] = []
-purge p v (call ∷ calls) = cond (relevant p v call) (call ∷ purge p v calls) (purge p v calls)
+purge p v (call ∷ calls) = if relevant p v call then call ∷ purge p v calls else purge p v calls

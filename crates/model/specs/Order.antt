@@ -1,5 +1,5 @@
 -- What holds in every state that calls lead to: rows in order, and bounds that are never passed.
-use Rattle.std.specs.Prelude.{◌≡◌, ℕ, ◌<◌, ◌≤◌, cond, ◌&&◌, List, length}
+use Rattle.std.specs.Prelude.{◌≡◌, ℕ, ◌<◌, ◌≤◌, if◌then◌else◌, ◌&&◌, List, length}
 use Rattle.std.specs.List.{AllByRecursion}
 use Rattle.rows.specs.declared.Row.{Row}
 use Rattle.rows.specs.Rows.{Rising}
@@ -24,7 +24,7 @@ Order = (p : Rules) (limit : ℕ) (calls : List Call) (c : ℕ) →
 abbrev pub OfKind : Rules → ℕ → Query → Kept → Type 0
 OfKind p user (Rows range) kept = kept ≡ kept_rows
 OfKind p user (Total range) kept = (count : ℕ) × (sum : ℕ) × (kept ≡ kept_total count sum)
-OfKind p user (Shared a b range) kept = kept ≡ cond (sees p user a && sees p user b) kept_shared kept_not_seen
+OfKind p user (Shared a b range) kept = kept ≡ (if sees p user a && sees p user b then kept_shared else kept_not_seen)
 
 -- an entry has a version for each compartment of the view, none of which reaches the limit
 pub record WellKept (p : Rules) (limit user : ℕ) (e : Entry) : Type 0 where

@@ -1,8 +1,8 @@
 -- What the store promises: each statement is a type, and its proof stands on a contract.
-use Rattle.std.specs.Prelude.{◌≡◌, ℕ, ◌<◌, ◌≤◌, false, cond, ◌&&◌, List, []}
+use Rattle.std.specs.Prelude.{◌≡◌, ℕ, ◌<◌, ◌≤◌, false, if◌then◌else◌, ◌&&◌, List, []}
 use Rattle.rows.specs.declared.KeyRange.{KeyRange}
 use Rattle.policy.specs.Rules.{Rules, Sound, sees}
-use Rattle.policy.specs.declared.refusal.Refusal.TheVariants.{ShortRow}
+use Rattle.base.specs.declared.refusal.Refusal.TheVariants.{ShortRow}
 use Rattle.query.specs.declared.Query.{Query}
 use Rattle.query.specs.declared.Query.TheVariants.{Shared}
 use Rattle.query.specs.Answers.{Answer, not_seen, answer, cost}
@@ -23,7 +23,8 @@ TwoTraces =
 -- the rows that a query examines after some calls: none where it is known, and else what it costs
 abbrev pub examined : Rules → ℕ → List Call → ℕ → Query → ℕ
 examined p limit calls user query =
-    cond (known p user query (events_after p limit empty [] calls)) 0 (cost (p.view user) (run p limit empty calls).rows query)
+    if known p user query (events_after p limit empty [] calls) then 0
+    else cost (p.view user) (run p limit empty calls).rows query
 
 -- RIGHT ANSWERS. Whoever is there and asks with a row that is long enough is answered, kept or not, with what the query gives for what they see now.
 abbrev pub RightAnswers : Type 0

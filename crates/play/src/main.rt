@@ -9,5 +9,5 @@ use std::process::ExitCode;
 fn main(rt: HostRuntime) -> io::Result<ExitCode> {
     let mut bytes = Vec::new(rt.alloc());
     rt.stdin().read_to_end(&mut bytes)?;
-    trace::play(rt.alloc(), bytes.as_slice())?.tell(&mut rt.stdout(), &mut rt.stderr())
+    trace_player::play(rt.alloc(), bytes.as_slice())?.tell(&mut rt.stdout(), &mut rt.stderr())
 }

@@ -1,11 +1,12 @@
 // Plays a trace from standard input purged for one user: their lines, and one on standard error where it was refused.
 #![tactic(auto)]
 
-use played::MOST;
-use policy::{CACHE, COMPARTMENTS, USERS};
+use base::{COMPARTMENTS, USERS};
+use policy::CACHE;
 use std::env;
 use std::io::{self, Read};
 use std::process::ExitCode;
+use trace_items::MOST;
 
 // The most that a policy of a trace asks for: each compartment has two numbers before its rows, and each row has two.
 const MEMORY: usize = COMPARTMENTS * (2 + 2 * MOST as usize) + USERS * CACHE;
@@ -19,7 +20,7 @@ fn main(rt: HostRuntime) -> io::Result<ExitCode> {
     let mut bytes = Vec::new(rt.alloc());
     rt.stdin().read_to_end(&mut bytes)?;
     let mut memory = [0; MEMORY];
-    let played = trace::play_for(rt.alloc(), &mut memory, user as usize, bytes.as_slice())?;
+    let played = trace_player::play_for(rt.alloc(), &mut memory, user as usize, bytes.as_slice())?;
     played.tell(&mut rt.stdout(), &mut rt.stderr())
 }
 

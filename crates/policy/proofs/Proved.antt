@@ -12,8 +12,8 @@ use Rattle.policy.specs.Numbers.{first, at_fault, places, bad_view, users_in, co
 use Rattle.policy.specs.Rules.{has, sees, all_see}
 use Rattle.policy.specs.Views.{view_of, distinct_below, valid, nobody}
 use Rattle.policy.specs.declared.Policy.{Policy}
-use Rattle.policy.specs.declared.refusal.Refusal.{Refusal}
-use Rattle.policy.specs.declared.refusal.Refusal.TheVariants.{OutOfBounds, BadView}
+use Rattle.base.specs.declared.refusal.Refusal.{Refusal}
+use Rattle.base.specs.declared.refusal.Refusal.TheVariants.{OutOfBounds, BadView}
 use Rattle.policy.specs.declared.contract.Contract.{Contract}
 use Rattle.policy.proofs.Judging.{first_none, first_some}
 use Rattle.policy.proofs.Steps.{all_at, within_at}

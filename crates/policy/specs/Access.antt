@@ -1,5 +1,5 @@
 -- What a policy answers: its rules, and where compartments and caches lie.
-use Rattle.std.specs.Prelude.{ℕ, ◌+◌, ◌*◌, ◌≤◌, Bool, cond, ◌&&◌, List, length, take, Some, None, Ok, Err, Option, Result, nat_lt, slice_index, slice_index_or}
+use Rattle.std.specs.Prelude.{ℕ, ◌+◌, ◌*◌, ◌≤◌, Bool, if◌then◌else◌, ◌&&◌, List, length, take, Some, None, Ok, Err, Option, Result, nat_lt, slice_index, slice_index_or}
 use Rattle.policy.specs.Layout.{size, starts_from, end_from}
 use Rattle.policy.specs.Policies.{rules_from, capacities_in}
 use Rattle.policy.specs.Rules.{Rules, sees, flows}
@@ -8,8 +8,8 @@ use Rattle.policy.specs.declared.contract.Contract.{Contract}
 use Rattle.policy.specs.declared.place.Place.{Place}
 use Rattle.policy.specs.declared.place.Written.{Written}
 use Rattle.policy.specs.declared.Policy.{Policy}
-use Rattle.policy.specs.declared.refusal.Refusal.{Refusal}
-use Rattle.policy.specs.declared.refusal.Refusal.TheVariants.{OutOfBounds}
+use Rattle.base.specs.declared.refusal.Refusal.{Refusal}
+use Rattle.base.specs.declared.refusal.Refusal.TheVariants.{OutOfBounds}
 
 -- the contracts of those who are there
 abbrev pub contracts_of : Policy → List Contract
@@ -29,7 +29,7 @@ rules_of p = rules_from p.users (contracts_of p) (capacities_of p)
 
 -- the contract of a user who is there
 abbrev pub contract_at : Policy → ℕ → Option Contract
-contract_at p u = cond (nat_lt u p.users) (Some (slice_index_or p.contracts u nobody)) None
+contract_at p u = if nat_lt u p.users then Some (slice_index_or p.contracts u nobody) else None
 
 -- rows may flow between compartments that are there
 abbrev pub may_flow : Policy → ℕ → ℕ → Bool
@@ -49,7 +49,7 @@ place_in p c = record { start = slice_index (starts_from 0 (capacities_of p)) c;
 
 -- where a compartment that is there lies
 abbrev pub place_at : Policy → ℕ → Option Place
-place_at p c = cond (nat_lt c p.compartments) (Some (place_in p c)) None
+place_at p c = if nat_lt c p.compartments then Some (place_in p c) else None
 
 -- the compartment in which a user writes
 abbrev pub written_in : Policy → ℕ → Written
@@ -57,11 +57,11 @@ written_in p u = record { compartment = (rules_of p).writes u; place = place_in 
 
 -- if they are there
 abbrev pub written_at : Policy → ℕ → Option Written
-written_at p u = cond (nat_lt u p.users) (Some (written_in p u)) None
+written_at p u = if nat_lt u p.users then Some (written_in p u) else None
 
 -- behind the compartments each user has eight cache places of 24 numbers
 abbrev pub cache_at : Policy → ℕ → Option ℕ
-cache_at p u = cond (nat_lt u p.users) (Some (end_from 0 (capacities_of p) + 192 * u)) None
+cache_at p u = if nat_lt u p.users then Some (end_from 0 (capacities_of p) + 192 * u) else None
 
 -- how long memory must be: behind the caches of all users it ends
 abbrev pub memory_length : Policy → ℕ
@@ -69,7 +69,7 @@ memory_length p = end_from 0 (capacities_of p) + 192 * p.users
 
 -- memory that is too short is refused
 abbrev pub length_told : Policy → List ℕ → Result (Unit {0}) Refusal
-length_told p memory = cond (nat_lt (length memory) (memory_length p)) (Err (OutOfBounds (length memory))) (Ok tt)
+length_told p memory = if nat_lt (length memory) (memory_length p) then Err (OutOfBounds (length memory)) else Ok tt
 
 -- a place lies within the memory that a policy asks for
 abbrev pub Inside : Policy → Place → Type 0

@@ -6,8 +6,8 @@ use Rattle.policy.specs.Numbers.{at_fault, places, bad_view, users_in, compartme
 use Rattle.policy.specs.Read.{Reads}
 use Rattle.policy.specs.Rules.{Rules, sees, flows, Sound}
 use Rattle.policy.specs.declared.Policy.{Policy}
-use Rattle.policy.specs.declared.refusal.Refusal.{Refusal}
-use Rattle.policy.specs.declared.refusal.Refusal.TheVariants.{OutOfBounds, BadView}
+use Rattle.base.specs.declared.refusal.Refusal.{Refusal}
+use Rattle.base.specs.declared.refusal.Refusal.TheVariants.{OutOfBounds, BadView}
 
 -- no number is at fault
 abbrev pub Faultless : ℕ → List ℕ → Type 0

@@ -1,7 +1,5 @@
 -- What the contracts of this crate cite, and the laws over it.
-pub mod Lists
 pub mod Rules
-pub mod Refusals
 pub mod Views
 pub mod Numbers
 pub mod Layout

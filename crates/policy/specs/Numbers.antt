@@ -1,10 +1,10 @@
 -- A policy in numbers: how many users and compartments there are; for each user eighteen numbers, how many compartments they
 -- see, sixteen places for them, and the one in which they write; and for each compartment its capacity.
-use Rattle.std.specs.Prelude.{ℕ, ◌+◌, ◌-◌, ◌*◌, ◌%◌, ◌<◌, ◌≤◌, Bool, true, cond, not, ◌&&◌, ◌||◌, List, length, take, drop, Option, ◌==◌, nat_le, slice_index}
+use Rattle.std.specs.Prelude.{ℕ, ◌+◌, ◌-◌, ◌*◌, ◌%◌, ◌<◌, ◌≤◌, Bool, true, if◌then◌else◌, not, ◌&&◌, ◌||◌, List, length, take, drop, Option, ◌==◌, nat_le, slice_index}
 use Rattle.policy.specs.Rules.{Rules}
 use Rattle.policy.specs.Views.{stands}
-use Rattle.policy.specs.declared.refusal.Refusal.{Refusal}
-use Rattle.policy.specs.declared.refusal.Refusal.TheVariants.{OutOfBounds, BadView}
+use Rattle.base.specs.declared.refusal.Refusal.{Refusal}
+use Rattle.base.specs.declared.refusal.Refusal.TheVariants.{OutOfBounds, BadView}
 use Rattle.std.specs.List.{find, range_with_len}
 use Rattle.std.specs.Option.{option_map}
 pub use Rattle.std.specs.Option.{option_or as or_else}
@@ -34,10 +34,10 @@ between low high n = nat_le low n && nat_le n high
 -- the bounds of the counts and of the capacities, by place; no other number has any
 abbrev pub within : ℕ → ℕ → ℕ → ℕ → Bool
 within most users place n =
-    cond (place == 0) (between 1 32 n)
-    (cond (place == 1) (between 1 16 n)
-    (cond (nat_le (user_at users) place) (between 1 most n)
-    (cond ((place - 2) % 18 == 0) (between 1 16 n) true)))
+    if place == 0 then between 1 32 n
+    else if place == 1 then between 1 16 n
+    else if nat_le (user_at users) place then between 1 most n
+    else if (place - 2) % 18 == 0 then between 1 16 n else true
 
 -- a number is at fault if it is missing or out of bounds
 abbrev pub at_fault : ℕ → List ℕ → ℕ → Bool
@@ -45,7 +45,9 @@ at_fault most xs place = nat_le (length xs) place || not (within most (users_in 
 
 -- how many numbers there should be; where a count is out of bounds, nobody can say more than these two
 abbrev pub places : List ℕ → ℕ
-places xs = cond (between 1 32 (users_in xs) && between 1 16 (compartments_in xs)) (user_at (users_in xs) + compartments_in xs) 2
+places xs =
+    if between 1 32 (users_in xs) && between 1 16 (compartments_in xs) then user_at (users_in xs) + compartments_in xs
+    else 2
 
 -- the first of the n places from i on at which a test holds
 abbrev pub first : (ℕ → Bool) → ℕ → ℕ → Option ℕ

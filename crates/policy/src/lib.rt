@@ -6,21 +6,18 @@ ghost use Rattle.policy.specs.Layout.{starts_from, end_from};
 ghost use Rattle.policy.specs.Policies.{flow_table, all_valid, all_within, capacities_in, starts_in};
 
 mod access;
-mod array_list;
 mod contract;
 mod judge;
 pub mod laws;
 mod numbers;
 mod place;
 mod read;
-mod refusal;
 mod sizes;
 mod tables;
 
-pub use array_list::ArrayList;
+pub use base::{ArrayList, Refusal};
 pub use contract::Contract;
 pub use place::{Place, VERSION_LIMIT, Written};
-pub use refusal::Refusal;
 pub use sizes::{CACHE, CAPACITY, COMPARTMENTS, COUNTS, USER, USERS};
 
 // A policy that was judged, with all that a request asks of it worked out.

@@ -1,12 +1,10 @@
-// How many users and compartments a policy may have, how many numbers each takes, and the largest capacity.
+// How many numbers the users and compartments of a policy take, and the largest capacity.
 ghost use Rattle.std.specs.Prelude.{◌≡◌, ◌≤◌};
 ghost use Rattle.policy.specs.Numbers.{user_at};
 
 // Contracts say these as numbers, so that a clause is read without looking them up.
 
-pub const USERS: usize = 32;
-
-pub const COMPARTMENTS: usize = 16;
+pub use base::{COMPARTMENTS, USERS};
 
 // The counts of users and of compartments, the first numbers of a policy.
 pub const COUNTS: usize = 2;

@@ -1,6 +1,6 @@
 -- What is read off memory is what the model's state has.
 use Rattle.std.proofs.Common.{◌≡◌, ℕ, ◌<◌, ◌≤◌, min, List, [], map, length, sym, refl, ap, ◌∙◌, subst, inl, inr, arith}
-use Rattle.answering.specs.Places.{part_at}
+use Rattle.memory_query.specs.Places.{part_at}
 use Rattle.cache.specs.Entries.{held}
 use Rattle.compartment.specs.Parts.{limit}
 use Rattle.model.specs.Model.{State, Call, empty, run}

@@ -11,8 +11,8 @@ use Rattle.model.proofs.Orderly.{ordered}
 use Rattle.policy.specs.Access.{rules_of}
 use Rattle.policy.specs.Rules.{sees, flows}
 use Rattle.policy.specs.declared.Policy.{Policy}
-use Rattle.policy.specs.declared.refusal.Refusal.{Refusal}
-use Rattle.policy.specs.declared.refusal.Refusal.TheVariants.{ShortRow, NoFlow}
+use Rattle.base.specs.declared.refusal.Refusal.{Refusal}
+use Rattle.base.specs.declared.refusal.Refusal.TheVariants.{ShortRow, NoFlow}
 use Rattle.policy.proofs.Proved.{seen_there, written_there}
 use Rattle.request.specs.declared.Request.{Request}
 use Rattle.request.specs.declared.Request.TheVariants.{Write, Delete, Copy, Query as Ask}

@@ -1,7 +1,7 @@
 -- What a request changes lies in one place of memory, and nothing behind the policy's part is touched.
 use Rattle.std.proofs.Common.{◌≡◌, ℕ, ◌+◌, ◌-◌, ◌*◌, ◌<◌, ◌≤◌, Bool, true, false, cond, ◌&&◌, eqb, ltb, leb, List, [], ◌∷◌, ◌++◌, length, get_or, take, drop, replicate, is_ok, Some, Ok, Result, sym, refl, ap, ◌∙◌, inl, inr, arith}
-use Rattle.answering.specs.Asked.{asked_memory}
-use Rattle.answering.proofs.Tied.{queries_as_model}
+use Rattle.memory_query.specs.Asked.{asked_memory}
+use Rattle.memory_query.proofs.Tied.{queries_as_model}
 use Rattle.cache.specs.Entries.{held}
 use Rattle.cache.proofs.Stored.{length_held}
 use Rattle.compartment.specs.Holding as compartment
@@ -14,7 +14,7 @@ use Rattle.model.proofs.Interference.{absent}
 use Rattle.policy.specs.Access.{rules_of, place_in, cache_at, memory_length}
 use Rattle.policy.specs.Layout.{size}
 use Rattle.policy.specs.declared.Policy.{Policy}
-use Rattle.policy.specs.declared.refusal.Refusal.{Refusal}
+use Rattle.base.specs.declared.refusal.Refusal.{Refusal}
 use Rattle.policy.proofs.Proved.{compartments_apart, written_there}
 use Rattle.query.specs.declared.Query.{Query}
 use Rattle.request.specs.declared.Request.{Request}

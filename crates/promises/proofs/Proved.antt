@@ -1,14 +1,14 @@
 -- The theorems about calls, through the model.
 use Rattle.std.proofs.Common.{◌≡◌, ℕ, suc, Bool, true, false, cond, eqb, ltb, leb, List, [], ◌∷◌, map, length, Ok, Err, Result, sym, refl, ap, ◌∙◌, inl, inr}
-use Rattle.answering.specs.Tie.{Tells, row_with}
+use Rattle.memory_query.specs.Tie.{Tells, row_with}
 use Rattle.compartment.specs.Parts.{limit}
 use Rattle.model.specs.Model.{State, Call, Response, done, refused, who, relevant, response, step, empty, told, purge, run, copied}
 use Rattle.model.proofs.Interference as model
 use Rattle.model.proofs.Answering as answers
 use Rattle.policy.specs.Access.{rules_of, may_copy}
 use Rattle.policy.specs.declared.Policy.{Policy}
-use Rattle.policy.specs.declared.refusal.Refusal.{Refusal}
-use Rattle.policy.specs.declared.refusal.Refusal.TheVariants.{NoUser, NoFlow, NoRoom, NoRow, LastVersion}
+use Rattle.base.specs.declared.refusal.Refusal.{Refusal}
+use Rattle.base.specs.declared.refusal.Refusal.TheVariants.{NoUser, NoFlow, NoRoom, NoRow, LastVersion}
 use Rattle.policy.proofs.Proved.{policies_valid}
 use Rattle.query.specs.declared.Outcome.{Outcome}
 use Rattle.request.specs.declared.Request.{Request}

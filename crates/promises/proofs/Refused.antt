@@ -1,7 +1,7 @@
 -- A refusal leaves memory as it was, whatever it holds.
 use Rattle.std.proofs.Common.{◌≡◌, ℕ, Bool, true, false, cond, eqb, List, length, is_ok, Some, None, Ok, Err, Option, Result, refl}
-use Rattle.answering.specs.Asked.{asked_told, asked_row}
-use Rattle.answering.proofs.Refused.{refusals_leave}
+use Rattle.memory_query.specs.Asked.{asked_told, asked_row}
+use Rattle.memory_query.proofs.Refused.{refusals_leave}
 use Rattle.compartment.specs.Parts.{checked, write_told, write_after, delete_told, delete_after, raise_told, raise_after}
 use Rattle.compartment.proofs.Held.{write_refused, delete_refused, raise_refused}
 use Rattle.merge.specs.declared.Copying.{Copying}
@@ -9,8 +9,8 @@ use Rattle.model.specs.Model.{refused}
 use Rattle.policy.specs.Access.{rules_of, may_copy, place_at, written_at}
 use Rattle.policy.specs.declared.place.Place.{Place}
 use Rattle.policy.specs.declared.place.Written.{Written}
-use Rattle.policy.specs.declared.refusal.Refusal.{Refusal}
-use Rattle.policy.specs.declared.refusal.Refusal.TheVariants.{OutOfBounds, NoFlow}
+use Rattle.base.specs.declared.refusal.Refusal.{Refusal}
+use Rattle.base.specs.declared.refusal.Refusal.TheVariants.{OutOfBounds, NoFlow}
 use Rattle.query.specs.declared.Outcome.{Outcome}
 use Rattle.request.specs.declared.Request.TheVariants.{Write, Delete, Copy, Query as Ask}
 use Rattle.rows.specs.declared.KeyRange.{KeyRange}

@@ -1,8 +1,8 @@
 -- What `serve` returns and leaves is what each kind of request does.
 use Rattle.std.proofs.Common.{◌≡◌, ℕ, List, length, Ok, Err, Result, refl}
-use Rattle.answering.specs.Asked.{asked_told, asked_row}
+use Rattle.memory_query.specs.Asked.{asked_told, asked_row}
 use Rattle.policy.specs.declared.Policy.{Policy}
-use Rattle.policy.specs.declared.refusal.Refusal.{Refusal}
+use Rattle.base.specs.declared.refusal.Refusal.{Refusal}
 use Rattle.query.specs.declared.Outcome.{Outcome}
 use Rattle.request.specs.declared.Request.{Request}
 use Rattle.request.specs.declared.Request.TheVariants.{Write, Delete, Copy, Query as Ask}

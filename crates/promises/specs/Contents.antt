@@ -1,7 +1,7 @@
 -- What memory holds, read off for every content, and memory as requests leave it.
 use Rattle.std.specs.Prelude.{◌≡◌, ℕ, ◌≤◌, List, length, take, drop}
-pub use Rattle.answering.specs.Places.{version_at}
-use Rattle.answering.specs.Places.{part_at}
+pub use Rattle.memory_query.specs.Places.{version_at}
+use Rattle.memory_query.specs.Places.{part_at}
 use Rattle.policy.specs.Access.{memory_length}
 use Rattle.policy.specs.declared.Policy.{Policy}
 use Rattle.rows.specs.Halving.{rows_of}

@@ -1,5 +1,5 @@
 -- When requests are done, what they change in memory, and that nothing else is changed.
-use Rattle.std.specs.Prelude.{◌≡◌, ℕ, suc, ◌+◌, ◌<◌, ◌≤◌, Bool, true, false, cond, ◌&&◌, ◌||◌, List, [], ◌∷◌, length, take, drop, Some, None, ◌==◌, ◌≢◌, nat_le, nat_lt}
+use Rattle.std.specs.Prelude.{◌≡◌, ℕ, suc, ◌+◌, ◌<◌, ◌≤◌, Bool, true, false, if◌then◌else◌, ◌&&◌, ◌||◌, List, [], ◌∷◌, length, take, drop, Some, None, ◌==◌, ◌≢◌, nat_le, nat_lt}
 use Rattle.compartment.specs.Holding.{Brought}
 use Rattle.compartment.specs.Parts.{limit}
 use Rattle.model.specs.Effects.{takes, absence, plain}
@@ -9,8 +9,8 @@ use Rattle.policy.specs.Access.{rules_of, place_in, memory_length}
 use Rattle.policy.specs.Layout.{size}
 use Rattle.policy.specs.Rules.{sees, flows}
 use Rattle.policy.specs.declared.Policy.{Policy}
-use Rattle.policy.specs.declared.refusal.Refusal.{Refusal}
-use Rattle.policy.specs.declared.refusal.Refusal.TheVariants.{NoUser, NoFlow, NoRoom, NoRow, ShortRow, LastVersion}
+use Rattle.base.specs.declared.refusal.Refusal.{Refusal}
+use Rattle.base.specs.declared.refusal.Refusal.TheVariants.{NoUser, NoFlow, NoRoom, NoRow, ShortRow, LastVersion}
 use Rattle.query.specs.Answers.{Answer, not_seen}
 use Rattle.query.specs.declared.Query.{Query}
 use Rattle.query.specs.declared.Query.TheVariants.{Shared}
@@ -41,29 +41,33 @@ room_for_rows p memory c new =
 
 -- a compartment changes, unless its version is as high as it may be
 abbrev pub changing : Policy → List ℕ → ℕ → Response
-changing p memory c = cond (nat_lt (suc (version_at p memory c)) limit) done (refused (LastVersion c))
+changing p memory c = if nat_lt (suc (version_at p memory c)) limit then done else refused (LastVersion c)
 
 -- WHEN IT IS DONE. A write, if its user is there, there is room for the row, and the version may rise.
 abbrev pub WriteTold : Type 0
 WriteTold = (p : Policy) (memory : List ℕ) (user : ℕ) (row : Row) (lent : List ℕ) → Reached p memory → Brought row →
     let c = (rules_of p).writes user in
-    let change = cond (room_for_row p memory c row) (changing p memory c) (refused (NoRoom ((rules_of p).capacity c))) in
-    tells p memory (Write user row) lent ≡ cond (there (rules_of p) user) change (refused (NoUser user))
+    let change =
+    if room_for_row p memory c row then changing p memory c
+    else refused (NoRoom ((rules_of p).capacity c)) in
+    tells p memory (Write user row) lent ≡ (if there (rules_of p) user then change else refused (NoUser user))
 
 -- a delete, if its user is there, a row has the key, and the version may rise
 abbrev pub DeleteTold : Type 0
 DeleteTold = (p : Policy) (memory : List ℕ) (user key : ℕ) (lent : List ℕ) → Reached p memory →
     let c = (rules_of p).writes user in
-    let change = cond (has_key key (rows_at p memory c)) (changing p memory c) (refused (NoRow key)) in
-    tells p memory (Delete user key) lent ≡ cond (there (rules_of p) user) change (refused (NoUser user))
+    let change = if has_key key (rows_at p memory c) then changing p memory c else refused (NoRow key) in
+    tells p memory (Delete user key) lent ≡ (if there (rules_of p) user then change else refused (NoUser user))
 
 -- a copy, if its user is there and sees the source, its rows may flow, there is room for them, and the version may rise
 abbrev pub CopyTold : Type 0
 CopyTold = (p : Policy) (memory : List ℕ) (user source : ℕ) (range : KeyRange) (lent : List ℕ) → Reached p memory →
     let c = (rules_of p).writes user in
     let allowed = there (rules_of p) user && (sees (rules_of p) user source && flows (rules_of p) source c) in
-    let change = cond (room_for_rows p memory c (rows_in range (rows_at p memory source))) (changing p memory c) (refused (NoRoom ((rules_of p).capacity c))) in
-    tells p memory (Copy user source range) lent ≡ cond allowed change (refused (NoFlow source))
+    let change =
+    if room_for_rows p memory c (rows_in range (rows_at p memory source)) then changing p memory c
+    else refused (NoRoom ((rules_of p).capacity c)) in
+    tells p memory (Copy user source range) lent ≡ (if allowed then change else refused (NoFlow source))
 
 -- one compartment was changed once, and all else is as it was
 pub record ChangedOnce (p : Policy) (c : ℕ) (memory left : List ℕ) : Type 0 where
@@ -79,7 +83,8 @@ WriteEffect = (p : Policy) (memory : List ℕ) (user : ℕ) (row : Row) (lent : 
     let c = (rules_of p).writes user in
     tells p memory (Write user row) lent ≡ done →
     ChangedOnce p c memory left
-    × ((k : ℕ) → amount_of k (rows_at p left c) ≡ cond (row.key == k) (Some row.amount) (amount_of k (rows_at p memory c)))
+    × ((k : ℕ) → amount_of k (rows_at p left c) ≡ (if row.key == k then Some row.amount
+    else amount_of k (rows_at p memory c)))
 
 -- nothing for a key that is deleted,
 abbrev pub DeleteEffect : Type 0
@@ -88,7 +93,7 @@ DeleteEffect = (p : Policy) (memory : List ℕ) (user key : ℕ) (lent : List �
     let c = (rules_of p).writes user in
     tells p memory (Delete user key) lent ≡ done →
     ChangedOnce p c memory left
-    × ((k : ℕ) → amount_of k (rows_at p left c) ≡ cond (key == k) None (amount_of k (rows_at p memory c)))
+    × ((k : ℕ) → amount_of k (rows_at p left c) ≡ (if key == k then None else amount_of k (rows_at p memory c)))
 
 -- and for a key of the range that the source has, what it maps to there
 abbrev pub CopyEffect : Type 0
@@ -98,7 +103,8 @@ CopyEffect = (p : Policy) (memory : List ℕ) (user source : ℕ) (range : KeyRa
     tells p memory (Copy user source range) lent ≡ done →
     ChangedOnce p c memory left
     × ((k : ℕ) → amount_of k (rows_at p left c)
-    ≡ cond (takes range (rows_at p memory source) k) (amount_of k (rows_at p memory source)) (amount_of k (rows_at p memory c)))
+    ≡ (if takes range (rows_at p memory source) k then amount_of k (rows_at p memory source)
+    else amount_of k (rows_at p memory c)))
 
 -- A REFUSAL CHANGES NOTHING, neither memory nor the answer row, whatever they hold.
 abbrev pub RefusalsLeave : Type 0

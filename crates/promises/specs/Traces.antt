@@ -1,11 +1,11 @@
 -- Traces of calls on memory: what each request tells and leaves, by the definitions that the calls' contracts name.
-use Rattle.std.specs.Prelude.{ℕ, cond, List, [], ◌∷◌, length, Ok, Err, Result, ◌==◌}
-use Rattle.answering.specs.Asked.{asked_told, asked_memory, asked_row}
+use Rattle.std.specs.Prelude.{ℕ, if◌then◌else◌, List, [], ◌∷◌, length, Ok, Err, Result, ◌==◌}
+use Rattle.memory_query.specs.Asked.{asked_told, asked_memory, asked_row}
 use Rattle.compartment.specs.Holding.{Brought}
 use Rattle.model.specs.Model.{Call, lend, Response, done, refused, answered, who, relevant}
 use Rattle.policy.specs.Access.{rules_of}
 use Rattle.policy.specs.declared.Policy.{Policy}
-use Rattle.policy.specs.declared.refusal.Refusal.{Refusal}
+use Rattle.base.specs.declared.refusal.Refusal.{Refusal}
 use Rattle.query.specs.Numbers.{read_answer}
 use Rattle.query.specs.declared.Outcome.{Outcome}
 use Rattle.request.specs.declared.Request.{Request}
@@ -61,8 +61,8 @@ after p memory (m ∷ ms) = after p (leaves p memory m.request m.row) ms
 abbrev pub told_on : Policy → ℕ → List ℕ → List Made → List Response
 told_on p v memory [] = []
 told_on p v memory (m ∷ ms) =
-    cond (who m.request == v) (tells p memory m.request m.row ∷ told_on p v (leaves p memory m.request m.row) ms)
-    (told_on p v (leaves p memory m.request m.row) ms)
+    if who m.request == v then tells p memory m.request m.row ∷ told_on p v (leaves p memory m.request m.row) ms
+    else told_on p v (leaves p memory m.request m.row) ms
 
 -- the request as the model has it
 abbrev pub call_of : Made → Call
@@ -71,7 +71,7 @@ call_of m = lend m.request (length m.row)
 -- the requests that are relevant to a user
 abbrev pub purged : Policy → ℕ → List Made → List Made
 purged p v [] = []
-purged p v (m ∷ ms) = cond (relevant (rules_of p) v (call_of m)) (m ∷ purged p v ms) (purged p v ms)
+purged p v (m ∷ ms) = if relevant (rules_of p) v (call_of m) then m ∷ purged p v ms else purged p v ms
 
 -- a response, and what the answer row holds afterwards
 pub record Reply : Type 0 where
@@ -85,5 +85,5 @@ tells_all p memory m = record { response = tells p memory m.request m.row; row =
 abbrev pub replies_on : Policy → ℕ → List ℕ → List Made → List Reply
 replies_on p v memory [] = []
 replies_on p v memory (m ∷ ms) =
-    cond (who m.request == v) (tells_all p memory m ∷ replies_on p v (leaves p memory m.request m.row) ms)
-    (replies_on p v (leaves p memory m.request m.row) ms)
+    if who m.request == v then tells_all p memory m ∷ replies_on p v (leaves p memory m.request m.row) ms
+    else replies_on p v (leaves p memory m.request m.row) ms

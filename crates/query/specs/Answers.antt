@@ -1,6 +1,6 @@
 -- What a query answers and what answering costs, over a view and the rows of each compartment.
 -- Recursions are written out, so that what is to be believed needs no other page; std's `map` and `sum_by` would say the same.
-use Rattle.std.specs.Prelude.{ℕ, ◌+◌, Bool, false, cond, ◌&&◌, List, [], ◌∷◌, length, ◌==◌}
+use Rattle.std.specs.Prelude.{ℕ, ◌+◌, Bool, false, if◌then◌else◌, ◌&&◌, List, [], ◌∷◌, length, ◌==◌}
 use Rattle.rows.specs.declared.Row.{Row}
 use Rattle.rows.specs.declared.KeyRange.{KeyRange}
 use Rattle.rows.specs.Rows.{rows_in, also_in, sum}
@@ -31,13 +31,15 @@ lists_of rows range (c ∷ cs) = rows_in range (rows c) ∷ lists_of rows range 
 abbrev pub answer : List ℕ → (ℕ → List Row) → Query → Answer
 answer view rows (Rows range) = lists (lists_of rows range view)
 answer view rows (Total range) = total (count_all (lists_of rows range view)) (sum_all (lists_of rows range view))
-answer view rows (Shared a b range) = cond (has view a && has view b) (list (also_in (rows_in range (rows a)) (rows b))) not_seen
+answer view rows (Shared a b range) =
+    if has view a && has view b then list (also_in (rows_in range (rows a)) (rows b)) else not_seen
 
 -- how many rows are examined
 abbrev pub cost : List ℕ → (ℕ → List Row) → Query → ℕ
 cost view rows (Rows range) = count_all (lists_of rows range view)
 cost view rows (Total range) = count_all (lists_of rows range view)
-cost view rows (Shared a b range) = cond (has view a && has view b) (length (rows_in range (rows a)) + length (rows b)) 0
+cost view rows (Shared a b range) =
+    if has view a && has view b then length (rows_in range (rows a)) + length (rows b) else 0
 
 abbrev pub same_range : KeyRange → KeyRange → Bool
 same_range r s = r.from == s.from && r.to == s.to

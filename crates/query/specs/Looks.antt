@@ -1,5 +1,5 @@
 -- Which compartments a query looks at, and how long the answer row must be.
-use Rattle.std.specs.Prelude.{ℕ, ◌+◌, ◌*◌, cond, ◌&&◌, List, [], ◌∷◌, Some, None, Option}
+use Rattle.std.specs.Prelude.{ℕ, ◌+◌, ◌*◌, if◌then◌else◌, ◌&&◌, List, [], ◌∷◌, Some, None, Option}
 use Rattle.policy.specs.Rules.{has}
 use Rattle.query.specs.declared.looked.LookedAt.{LookedAt}
 use Rattle.query.specs.declared.Query.{Query}
@@ -9,7 +9,7 @@ use Rattle.query.specs.declared.Query.TheVariants.{Rows, Total, Shared}
 abbrev pub looked_at : List ℕ → Query → List ℕ
 looked_at view (Rows range) = view
 looked_at view (Total range) = view
-looked_at view (Shared a b range) = cond (has view a && has view b) (a ∷ b ∷ []) []
+looked_at view (Shared a b range) = if has view a && has view b then a ∷ b ∷ [] else []
 
 abbrev pub places_of : LookedAt → List ℕ
 places_of l = l.compartments.items
@@ -23,4 +23,4 @@ capacities capacity (c ∷ cs) = capacity c + capacities capacity cs
 abbrev pub needed_for : (ℕ → ℕ) → List ℕ → Query → Option ℕ
 needed_for capacity view (Rows range) = Some (32 + 2 * capacities capacity view)
 needed_for capacity view (Total range) = Some (32 + 2 * capacities capacity view)
-needed_for capacity view (Shared a b range) = cond (has view a && has view b) (Some (32 + 2 * capacity a)) None
+needed_for capacity view (Shared a b range) = if has view a && has view b then Some (32 + 2 * capacity a) else None

@@ -1,6 +1,6 @@
 -- What a query makes of the parts that it is lent and of the answer row, for every content, of rows that rise or not.
 -- Sums are written out, so that what is to be believed needs no other page; std's `sum_by` would say the same.
-use Rattle.std.specs.Prelude.{ℕ, ◌+◌, ◌/◌, ◌%◌, ◌^◌, Bool, cond, ◌&&◌, List, [], ◌∷◌, ◌++◌, map, length, take, drop, replicate, Some, None, Option, nat_le}
+use Rattle.std.specs.Prelude.{ℕ, ◌+◌, ◌/◌, ◌%◌, ◌^◌, Bool, if◌then◌else◌, ◌&&◌, List, [], ◌∷◌, ◌++◌, map, length, take, drop, replicate, Some, None, Option, nat_le}
 use Rattle.std.specs.List.{flat_map}
 use Rattle.rows.specs.declared.Row.{Row}
 use Rattle.rows.specs.declared.KeyRange.{KeyRange}
@@ -72,24 +72,25 @@ unseen = record { answered = NotSeen; examined = 0 }
 abbrev pub shared_outcome : KeyRange → List (List ℕ) → ℕ → Option Outcome
 shared_outcome range [] long = Some unseen
 shared_outcome range (a ∷ []) long = Some unseen
-shared_outcome range (a ∷ b ∷ []) long = cond (fits (a ∷ []) long) (Some (list_outcome range a b)) None
+shared_outcome range (a ∷ b ∷ []) long = if fits (a ∷ []) long then Some (list_outcome range a b) else None
 shared_outcome range (a ∷ b ∷ c ∷ ps) long = Some unseen
 
 abbrev pub shared_row : KeyRange → List (List ℕ) → List ℕ → List ℕ
 shared_row range [] row = row
 shared_row range (a ∷ []) row = row
-shared_row range (a ∷ b ∷ []) row = cond (fits (a ∷ []) (length row)) (written_list (common (range_part range a) b) row) row
+shared_row range (a ∷ b ∷ []) row =
+    if fits (a ∷ []) (length row) then written_list (common (range_part range a) b) row else row
 shared_row range (a ∷ b ∷ c ∷ ps) row = row
 
 -- what is answered from the parts that the query looks at, with a row of some length; refused where that is too short
 abbrev pub outcome : Query → List (List ℕ) → ℕ → Option Outcome
-outcome (Rows range) parts long = cond (fits parts long) (Some (rows_outcome range parts)) None
-outcome (Total range) parts long = cond (fits parts long) (Some (total_outcome range parts)) None
+outcome (Rows range) parts long = if fits parts long then Some (rows_outcome range parts) else None
+outcome (Total range) parts long = if fits parts long then Some (total_outcome range parts) else None
 outcome (Shared a b range) parts long = shared_outcome range parts long
 
 -- what the row holds afterwards
 abbrev pub row_after : Query → List (List ℕ) → List ℕ → List ℕ
-row_after (Rows range) parts row = cond (fits parts (length row)) (written_lists range parts row) row
+row_after (Rows range) parts row = if fits parts (length row) then written_lists range parts row else row
 row_after (Total range) parts row = row
 row_after (Shared a b range) parts row = shared_row range parts row
 

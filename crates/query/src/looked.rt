@@ -5,7 +5,8 @@ ghost use Rattle.policy.specs.Views.{view_of};
 ghost use Rattle.query.specs.Looks.{looked_at, places_of};
 
 use crate::Query;
-use policy::{ArrayList, COMPARTMENTS, Contract};
+use base::{ArrayList, COMPARTMENTS};
+use policy::Contract;
 
 // A query's code is lent the parts of these compartments, in their order, and nothing else.
 #[derive(Clone, Copy)]

@@ -4,7 +4,7 @@ ghost use Rattle.rows.specs.Numbers.{range_part};
 ghost use Rattle.query.specs.Numbers.{fits, lengths, counts, count_in, amount_in, cut, common, written_lists, written_list, rows_outcome, total_outcome, list_outcome, shared_outcome, shared_row, outcome, row_after};
 
 use crate::{Answered, HEADER, Outcome, Query};
-use policy::COMPARTMENTS;
+use base::COMPARTMENTS;
 use rows::KeyRange;
 use std::marker::Model;
 

@@ -3,21 +3,21 @@ use Rattle.std.proofs.Common.{◌≡◌, ℕ, zero, suc, ◌+◌, ◌^◌, ◌<�
 use Rattle.std.proofs.lemmas.Bool.Decides.{nat_tests}
 use Rattle.std.proofs.lemmas.List.{get_or_default}
 use Rattle.rows.specs.declared.KeyRange.{KeyRange}
-use Rattle.policy.specs.declared.refusal.Refusal.{Refusal}
-use Rattle.policy.specs.declared.refusal.Refusal.TheVariants.{NoRequest}
+use Rattle.base.specs.declared.refusal.Refusal.{Refusal}
+use Rattle.base.specs.declared.refusal.Refusal.TheVariants.{NoRequest}
 use Rattle.query.specs.declared.Query.TheVariants.{Rows, Total, Shared}
 use Rattle.request.specs.declared.Request.{Request}
 use Rattle.request.specs.declared.Request.TheVariants.{Write, Delete, Copy}
 use Rattle.request.specs.declared.kinds.Kind.{Kind}
 use Rattle.request.specs.declared.kinds.QueryKind.{QueryKind}
 use Rattle.request.specs.Kinds.{kind_numbered, query_numbered}
-use Rattle.request.specs.Decoded.{then, below, range_at, kind_at, query_kind_at, query_of, request_of}
+use Rattle.request.specs.Decoded.{and_then, below, range_at, kind_at, query_kind_at, query_of, request_of}
 use Rattle.request.specs.Format.{Lowest, LowestFault, ReadWithoutFault, AllBelow, bounds, kind_bounds, query_bounds, numbers_of}
 use Rattle.request.proofs.Reading.{reads_what_stands}
 
 -- a refusal is that of the first or of what comes after it
 fails : {A B : Type 0} (P : Type 0) (r : Result A Refusal) (f : A → Result B Refusal) (e : Refusal) →
-    then r f ≡ Err e → (r ≡ Err e → P) → ((a : A) → r ≡ Ok a → f a ≡ Err e → P) → P
+    and_then r f ≡ Err e → (r ≡ Err e → P) → ((a : A) → r ≡ Ok a → f a ≡ Err e → P) → P
 fails P (Ok a) f e h stop go = go a refl h
 fails P (Err d) f e h stop go = stop (cc)
 
@@ -41,7 +41,7 @@ module _ (bs xs : List ℕ) where
 
   -- a number, and then the rest
   number : {B : Type 0} (i bound : ℕ) (e : Refusal) (f : ℕ → Result B Refusal) → i < length bs → get_or bs i 0 ≡ bound → Before i →
-      then (below bound xs i) f ≡ Err e → ((v : ℕ) → Before (i + 1) → f v ≡ Err e → LowestBy bs xs e) → LowestBy bs xs e
+      and_then (below bound xs i) f ≡ Err e → ((v : ℕ) → Before (i + 1) → f v ≡ Err e → LowestBy bs xs e) → LowestBy bs xs e
   number i bound e f h b clear r go =
       fails (LowestBy bs xs e) (below bound xs i) f e r
       (λ s. stops i bound e h b clear s)
@@ -49,7 +49,7 @@ module _ (bs xs : List ℕ) where
 
   -- a range at the end
   range : {B : Type 0} (i : ℕ) (e : Refusal) (f : KeyRange → B) → i + 1 < length bs → get_or bs i 0 ≡ 2 ^ 32 → get_or bs (i + 1) 0 ≡ 2 ^ 32 → Before i →
-      then (range_at xs i) (λ range. Ok (f range)) ≡ Err e → LowestBy bs xs e
+      and_then (range_at xs i) (λ range. Ok (f range)) ≡ Err e → LowestBy bs xs e
   range i e f h b c clear r =
       fails (LowestBy bs xs e) (range_at xs i) _ e r
       (λ s. number i (2 ^ 32) e _ (omega arith) b clear s (λ from clear t.

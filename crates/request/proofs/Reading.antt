@@ -3,7 +3,7 @@ use Rattle.std.proofs.Common.{◌≡◌, ℕ, ◌+◌, ◌^◌, ◌<◌, List, �
 use Rattle.std.proofs.lemmas.Bool.Decides.{nat_tests}
 use Rattle.std.proofs.lemmas.List.{drop_more}
 use Rattle.rows.specs.declared.KeyRange.{KeyRange}
-use Rattle.policy.specs.declared.refusal.Refusal.{Refusal}
+use Rattle.base.specs.declared.refusal.Refusal.{Refusal}
 use Rattle.query.specs.declared.Query.{Query}
 use Rattle.query.specs.declared.Query.TheVariants.{Rows, Total, Shared}
 use Rattle.request.specs.declared.Request.{Request}
@@ -11,7 +11,7 @@ use Rattle.request.specs.declared.Request.TheVariants.{Write, Delete, Copy}
 use Rattle.request.specs.declared.kinds.Kind.{Kind}
 use Rattle.request.specs.declared.kinds.QueryKind.{QueryKind}
 use Rattle.request.specs.Kinds.{kind_numbered, query_numbered}
-use Rattle.request.specs.Decoded.{then, below, range_at, kind_at, query_kind_at, query_of, request_of}
+use Rattle.request.specs.Decoded.{and_then, below, range_at, kind_at, query_kind_at, query_of, request_of}
 use Rattle.request.specs.Format.{RoundTrip, Reads, ReadsWhatStands}
 
 pub round_trip : RoundTrip
@@ -24,7 +24,7 @@ round_trip (Request.Query user (Shared a b range)) rest w = grind (arith, nat_te
 
 -- what comes through was handed on
 pub passes : {A B : Type 0} (P : Type 0) (r : Result A Refusal) (f : A → Result B Refusal) (b : B) →
-    then r f ≡ Ok b → ((a : A) → r ≡ Ok a → f a ≡ Ok b → P) → P
+    and_then r f ≡ Ok b → ((a : A) → r ≡ Ok a → f a ≡ Ok b → P) → P
 passes P (Ok a) f b h go = go a refl h
 passes P (Err e) f b h go = absurd cc
 
@@ -49,11 +49,11 @@ query_kind_reads : (xs : List ℕ) (n : ℕ) (k : QueryKind) → n < 3 → query
 query_kind_reads xs n k h e g = let f = drop_more xs 2 0 in grind (arith, nat_tests)
 
 -- a number is handed on, and a range
-takes : {B : Type 0} (P : Type 0) (bound : ℕ) (xs : List ℕ) (i : ℕ) (f : ℕ → Result B Refusal) (b : B) → then (below bound xs i) f ≡ Ok b →
+takes : {B : Type 0} (P : Type 0) (bound : ℕ) (xs : List ℕ) (i : ℕ) (f : ℕ → Result B Refusal) (b : B) → and_then (below bound xs i) f ≡ Ok b →
     ((v : ℕ) → (v < bound) × (drop i xs ≡ v ∷ drop (i + 1) xs) → f v ≡ Ok b → P) → P
 takes P bound xs i f b h go = passes P (below bound xs i) f b h (λ v e. go v (below_reads bound xs i v e))
 
-takes_range : {B : Type 0} (P : Type 0) (xs : List ℕ) (i : ℕ) (f : KeyRange → Result B Refusal) (b : B) → then (range_at xs i) f ≡ Ok b →
+takes_range : {B : Type 0} (P : Type 0) (xs : List ℕ) (i : ℕ) (f : KeyRange → Result B Refusal) (b : B) → and_then (range_at xs i) f ≡ Ok b →
     ((range : KeyRange) → (range.from < 2 ^ 32) × (range.to < 2 ^ 32) × (drop i xs ≡ range.from ∷ range.to ∷ drop (i + 1 + 1) xs) →
     f range ≡ Ok b → P) → P
 takes_range P xs i f b h go = passes P (range_at xs i) f b h (λ range e. go range (range_reads xs i range e))

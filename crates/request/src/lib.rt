@@ -9,12 +9,12 @@ mod kinds;
 mod laws;
 mod places;
 
+use base::{COMPARTMENTS, Refusal, USERS};
 pub use kinds::{Kind, QueryKind, UnknownKind};
 pub use laws::{
     lowest_fault_stands, read_without_fault_stands, reads_what_stands, round_trip_stands,
 };
 use places::Numbers;
-use policy::{COMPARTMENTS, Refusal, USERS};
 use query::Query;
 use rows::{KeyRange, Row};
 

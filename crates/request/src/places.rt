@@ -2,7 +2,7 @@
 ghost use Rattle.std.specs.Prelude.{◌≡◌, ◌+◌, ◌^◌, ◌<◌};
 ghost use Rattle.request.specs.Decoded.{ReadAs, below, number_at, range_at};
 
-use policy::Refusal;
+use base::Refusal;
 use rows::KeyRange;
 
 // The numbers of a request.

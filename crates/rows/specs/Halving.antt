@@ -1,5 +1,5 @@
 -- Rows in memory: two numbers a row, key and amount; and where a key stands among them, found by halving.
-use Rattle.std.specs.Prelude.{ℕ, zero, suc, ◌+◌, ◌-◌, ◌*◌, ◌/◌, cond, List, [], ◌∷◌, length, nat_lt, slice_index}
+use Rattle.std.specs.Prelude.{ℕ, zero, suc, ◌+◌, ◌-◌, ◌*◌, ◌/◌, if◌then◌else◌, List, [], ◌∷◌, length, nat_lt, slice_index}
 use Rattle.rows.specs.declared.Row.{Row}
 
 -- rows as memory holds them
@@ -20,11 +20,11 @@ pair_row pair = record { key = slice_index pair 0; amount = slice_index pair 1 }
 unfoldable pub bisect : ℕ → ℕ → ℕ → List ℕ → ℕ → ℕ
 bisect zero low high rows key = low
 bisect (suc fuel) low high rows key =
-    cond (nat_lt low high)
-    (cond (nat_lt (slice_index rows (2 * (low + (high - low) / 2))) key)
-    (bisect fuel (low + (high - low) / 2 + 1) high rows key)
-    (bisect fuel low (low + (high - low) / 2) rows key))
-    low
+    if nat_lt low high
+    then (if nat_lt (slice_index rows (2 * (low + (high - low) / 2))) key
+    then bisect fuel (low + (high - low) / 2 + 1) high rows key
+    else bisect fuel low (low + (high - low) / 2) rows key)
+    else low
 
 unfoldable pub position : ℕ → List ℕ → ℕ
 position key rows = bisect (length rows / 2) 0 (length rows / 2) rows key

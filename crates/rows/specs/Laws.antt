@@ -1,5 +1,5 @@
 -- What the calls mean on rows that rise, in memory that may hold more behind them.
-use Rattle.std.specs.Prelude.{◌≡◌, ℕ, ◌*◌, ◌/◌, ◌%◌, ◌^◌, ◌<◌, ◌≤◌, Bool, cond, ◌&&◌, ◌||◌, List, ◌++◌, length, take, Some, None, ◌==◌, nat_le}
+use Rattle.std.specs.Prelude.{◌≡◌, ℕ, ◌*◌, ◌/◌, ◌%◌, ◌^◌, ◌<◌, ◌≤◌, Bool, if◌then◌else◌, ◌&&◌, ◌||◌, List, ◌++◌, length, take, Some, None, ◌==◌, nat_le}
 use Rattle.rows.specs.Rows.{Rising, amount_of, has_key, smaller, put, without, rows_in, sum, also_in, Small}
 use Rattle.rows.specs.Halving.{flat, bisect, position}
 use Rattle.rows.specs.Numbers.{place, put_count, put_into, delete_count, delete_from, range_part, totals_of, shared_count, shared_into, in_front}
@@ -16,7 +16,8 @@ HalvingCounts = (k : ℕ) (rs : List Row) (rest : List ℕ) → Rising rs → po
 
 -- and the row of a key, if there is one
 abbrev pub HalvingFinds : Type 0
-HalvingFinds = (k : ℕ) (rs : List Row) → Rising rs → place k (flat rs) ≡ cond (has_key k rs) (Some (smaller k rs)) None
+HalvingFinds = (k : ℕ) (rs : List Row) → Rising rs → place k (flat rs) ≡ (if has_key k rs then Some (smaller k rs)
+    else None)
 
 -- n probes suffice where there are fewer than 2^n rows, whatever they hold; 13 for 4,096
 abbrev pub ProbesSuffice : Type 0
@@ -31,12 +32,15 @@ fits rs part = nat_le (2 * length rs) (length part)
 abbrev pub PutIsPut : Type 0
 PutIsPut =
     (r : Row) (rs : List Row) (rest : List ℕ) → Rising rs
-    → (put_count (length rs) r (flat rs ++ rest) ≡ cond (fits (put r rs) (flat rs ++ rest)) (Some (length (put r rs))) None)
-    × (put_into (length rs) r (flat rs ++ rest) ≡ cond (fits (put r rs) (flat rs ++ rest)) (in_front (put r rs) (flat rs ++ rest)) (flat rs ++ rest))
+    → (put_count (length rs) r (flat rs ++ rest) ≡ (if fits (put r rs) (flat rs ++ rest) then Some (length (put r rs))
+    else None))
+    × (put_into (length rs) r (flat rs ++ rest) ≡ (if fits (put r rs) (flat rs ++ rest) then in_front (put r rs) (flat rs ++ rest)
+    else flat rs ++ rest))
     × (fits (put r rs) (flat rs ++ rest) ≡ (has_key r.key rs || nat_le 2 (length rest)))
 
 abbrev pub PutKeys : Type 0
-PutKeys = (k : ℕ) (r : Row) (rs : List Row) → amount_of k (put r rs) ≡ cond (r.key == k) (Some r.amount) (amount_of k rs)
+PutKeys = (k : ℕ) (r : Row) (rs : List Row) → amount_of k (put r rs) ≡ (if r.key == k then Some r.amount
+    else amount_of k rs)
 
 abbrev pub PutRises : Type 0
 PutRises = (r : Row) (rs : List Row) → Rising rs → Rising (put r rs)
@@ -45,11 +49,12 @@ PutRises = (r : Row) (rs : List Row) → Rising rs → Rising (put r rs)
 abbrev pub DeleteIsWithout : Type 0
 DeleteIsWithout =
     (k : ℕ) (rs : List Row) (rest : List ℕ) → Rising rs
-    → (delete_count (length rs) k (flat rs ++ rest) ≡ cond (has_key k rs) (Some (length (without k rs))) None)
+    → (delete_count (length rs) k (flat rs ++ rest) ≡ (if has_key k rs then Some (length (without k rs)) else None))
     × (delete_from (length rs) k (flat rs ++ rest) ≡ in_front (without k rs) (flat rs ++ rest))
 
 abbrev pub DeleteKeys : Type 0
-DeleteKeys = (k j : ℕ) (rs : List Row) → Rising rs → amount_of k (without j rs) ≡ cond (j == k) None (amount_of k rs)
+DeleteKeys = (k j : ℕ) (rs : List Row) → Rising rs → amount_of k (without j rs) ≡ (if j == k then None
+    else amount_of k rs)
 
 abbrev pub DeleteRises : Type 0
 DeleteRises = (k : ℕ) (rs : List Row) → Rising rs → Rising (without k rs)
@@ -61,7 +66,7 @@ RangeIsRowsIn = (range : KeyRange) (rs : List Row) → Rising rs → range_part 
 abbrev pub RangeKeys : Type 0
 RangeKeys =
     (k : ℕ) (range : KeyRange) (rs : List Row)
-    → amount_of k (rows_in range rs) ≡ cond (nat_le range.from k && nat_le k range.to) (amount_of k rs) None
+    → amount_of k (rows_in range rs) ≡ (if nat_le range.from k && nat_le k range.to then amount_of k rs else None)
 
 abbrev pub RangeRises : Type 0
 RangeRises = (range : KeyRange) (rs : List Row) → Rising rs → Rising (rows_in range rs)
@@ -70,11 +75,12 @@ RangeRises = (range : KeyRange) (rs : List Row) → Rising rs → Rising (rows_i
 abbrev pub SharedIsAlsoIn : Type 0
 SharedIsAlsoIn =
     (xs ys : List Row) (out : List ℕ) → Rising xs → Rising ys
-    → (shared_count (flat xs) (flat ys) out ≡ cond (fits xs out) (Some (length (also_in xs ys))) None)
-    × (shared_into (flat xs) (flat ys) out ≡ cond (fits xs out) (in_front (also_in xs ys) out) out)
+    → (shared_count (flat xs) (flat ys) out ≡ (if fits xs out then Some (length (also_in xs ys)) else None))
+    × (shared_into (flat xs) (flat ys) out ≡ (if fits xs out then in_front (also_in xs ys) out else out))
 
 abbrev pub SharedKeys : Type 0
-SharedKeys = (k : ℕ) (xs ys : List Row) → amount_of k (also_in xs ys) ≡ cond (has_key k ys) (amount_of k xs) None
+SharedKeys = (k : ℕ) (xs ys : List Row) → amount_of k (also_in xs ys) ≡ (if has_key k ys then amount_of k xs
+    else None)
 
 abbrev pub SharedRises : Type 0
 SharedRises = (xs ys : List Row) → Rising xs → Rising (also_in xs ys)

@@ -14,10 +14,10 @@ fn main(rt: HostRuntime) -> io::Result<ExitCode> {
     // The first is the program's name.
     let mut words = arguments.skip(1);
     let Some(word) = words.next() else {
-        return show(&rt, overview::table);
+        return show(&rt, policy_text::table);
     };
     if word.as_str() == "dot" && words.next().is_none() {
-        show(&rt, overview::graph)
+        show(&rt, policy_text::graph)
     } else {
         usage(&rt)
     }
@@ -37,7 +37,7 @@ where
     // The two lines that read stand in four programs, for the reason that stands in `play`.
     let mut bytes = Vec::new(rt.alloc());
     rt.stdin().read_to_end(&mut bytes)?;
-    match wire::read_policy(bytes.as_slice(), wire::CAPACITY) {
+    match trace_bytes::read_policy(bytes.as_slice(), trace_bytes::CAPACITY) {
         Ok(policy) => {
             let text = overview(rt.alloc(), &policy)?;
             rt.print(text.as_str())?;

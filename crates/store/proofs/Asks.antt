@@ -1,9 +1,9 @@
 -- A query follows the model.
 use Rattle.std.proofs.Common.{◌≡◌, ℕ, zero, suc, ◌+◌, ◌-◌, ◌<◌, ◌≤◌, min, true, false, ltb, ◌⊎◌, List, [], ◌∷◌, length, take, Some, None, Option, sym, refl, ◌∙◌, inl, inr, arith}
-use Rattle.answering.specs.Asked.{with_cache}
-use Rattle.answering.specs.Places.{part_at, version_at, fault_at}
-use Rattle.answering.specs.Tie as tie
-use Rattle.answering.proofs.Tied.{queries_with_row}
+use Rattle.memory_query.specs.Asked.{with_cache}
+use Rattle.memory_query.specs.Places.{part_at, version_at, fault_at}
+use Rattle.memory_query.specs.Tie as tie
+use Rattle.memory_query.proofs.Tied.{queries_with_row}
 use Rattle.cache.specs.Entries.{Entry, held, OfView}
 use Rattle.cache.specs.declared.Kept.{Kept}
 use Rattle.cache.proofs.Stored.{length_held}

@@ -5,7 +5,7 @@ use Rattle.model.specs.Model.{State, Response, done, refused, answered, accepted
 use Rattle.policy.specs.Access.{rules_of, place_in}
 use Rattle.policy.specs.declared.Policy.{Policy}
 use Rattle.policy.specs.declared.place.Place.{Place}
-use Rattle.policy.specs.declared.refusal.Refusal.{Refusal}
+use Rattle.base.specs.declared.refusal.Refusal.{Refusal}
 use Rattle.policy.proofs.Proved.{compartments_apart}
 use Rattle.rows.specs.declared.Row.{Row}
 use Rattle.std.proofs.lemmas.List.{take-append-drop}

@@ -10,7 +10,7 @@ use Rattle.model.specs.Model.{State, accepted, changed, filling}
 use Rattle.policy.specs.Access.{rules_of, place_in, may_copy, memory_length}
 use Rattle.policy.specs.Rules.{sees, flows}
 use Rattle.policy.specs.declared.Policy.{Policy}
-use Rattle.policy.specs.declared.refusal.Refusal.TheVariants.{NoRoom, LastVersion}
+use Rattle.base.specs.declared.refusal.Refusal.TheVariants.{NoRoom, LastVersion}
 use Rattle.policy.proofs.Proved.{seen_there, written_there}
 use Rattle.rows.specs.declared.KeyRange.{KeyRange}
 use Rattle.rows.specs.Halving.{flat}

@@ -7,8 +7,8 @@ use Rattle.model.specs.Model.{State, Response, done, refused, accepted, changed,
 use Rattle.policy.specs.Access.{rules_of, place_in, written_in, written_at, memory_length}
 use Rattle.policy.specs.declared.Policy.{Policy}
 use Rattle.policy.specs.declared.place.Written.{Written}
-use Rattle.policy.specs.declared.refusal.Refusal.{Refusal}
-use Rattle.policy.specs.declared.refusal.Refusal.TheVariants.{OutOfBounds, NoUser, NoRoom, NoRow, LastVersion}
+use Rattle.base.specs.declared.refusal.Refusal.{Refusal}
+use Rattle.base.specs.declared.refusal.Refusal.TheVariants.{OutOfBounds, NoUser, NoRoom, NoRow, LastVersion}
 use Rattle.policy.proofs.Proved.{compartments_apart, written_there}
 use Rattle.rows.specs.declared.Row.{Row}
 use Rattle.rows.specs.Rows.{put, without, has_key}

@@ -1,5 +1,5 @@
 -- What each call tells, and what memory holds afterwards, for every content of memory.
-use Rattle.std.specs.Prelude.{ℕ, ◌+◌, ◌-◌, Bool, cond, List, ◌++◌, length, drop, replicate, is_ok, Some, None, Ok, Err, Option, Result, ◌==◌, nat_lt}
+use Rattle.std.specs.Prelude.{ℕ, ◌+◌, ◌-◌, Bool, if◌then◌else◌, List, ◌++◌, length, drop, replicate, is_ok, Some, None, Ok, Err, Option, Result, ◌==◌, nat_lt}
 use Rattle.compartment.specs.Parts.{checked, write_told, write_after, delete_told, delete_after, raise_told, raise_after}
 use Rattle.merge.specs.Numbers.{plan, merged_into}
 use Rattle.merge.specs.declared.Part.{Part}
@@ -8,14 +8,14 @@ use Rattle.policy.specs.Access.{rules_of, may_copy, place_at, written_at, memory
 use Rattle.policy.specs.declared.Policy.{Policy}
 use Rattle.policy.specs.declared.place.Place.{Place}
 use Rattle.policy.specs.declared.place.Written.{Written}
-use Rattle.policy.specs.declared.refusal.Refusal.{Refusal}
-use Rattle.policy.specs.declared.refusal.Refusal.TheVariants.{OutOfBounds, NoUser, NoFlow}
+use Rattle.base.specs.declared.refusal.Refusal.{Refusal}
+use Rattle.base.specs.declared.refusal.Refusal.TheVariants.{OutOfBounds, NoUser, NoFlow}
 use Rattle.rows.specs.declared.KeyRange.{KeyRange}
 use Rattle.rows.specs.declared.Row.{Row}
 use Rattle.store.specs.declared.copying.counts.Counts.{Counts}
 use Rattle.store.specs.Memory.{part, with_part}
 pub use Rattle.policy.specs.Access.{length_told as opened_told}
-pub use Rattle.request.specs.Decoded.{then as both}
+pub use Rattle.request.specs.Decoded.{and_then as both}
 
 -- memory is shorter than the policy asks for; `opened_told` refuses it
 abbrev pub short : Policy → List ℕ → Bool
@@ -23,7 +23,7 @@ short p memory = nat_lt (length memory) (memory_length p)
 
 -- zeros as far as the policy asks for memory; what lies behind is not touched
 abbrev pub opened : Policy → List ℕ → List ℕ
-opened p memory = cond (short p memory) memory (replicate (memory_length p) 0 ++ drop (memory_length p) memory)
+opened p memory = if short p memory then memory else replicate (memory_length p) 0 ++ drop (memory_length p) memory
 
 -- a change in the compartment in which the user writes: what a change of its part tells
 abbrev pub change_told : (Written → List ℕ → Result (Unit {0}) Refusal) → ℕ → Option Written → List ℕ → Result (Unit {0}) Refusal
@@ -38,22 +38,24 @@ change_memory after (Some w) memory = with_part w.place (after (part w.place mem
 -- what a write tells: memory that is too short is refused first
 abbrev pub wrote_told : Policy → ℕ → Row → List ℕ → Result (Unit {0}) Refusal
 wrote_told p user row memory =
-    cond (short p memory) (Err (OutOfBounds (length memory)))
-    (change_told (λ w. write_told w.place.start w.compartment row) user (written_at p user) memory)
+    if short p memory then Err (OutOfBounds (length memory))
+    else change_told (λ w. write_told w.place.start w.compartment row) user (written_at p user) memory
 
 -- and leaves
 abbrev pub wrote : Policy → ℕ → Row → List ℕ → List ℕ
-wrote p user row memory = cond (short p memory) memory (change_memory (write_after row) (written_at p user) memory)
+wrote p user row memory =
+    if short p memory then memory else change_memory (write_after row) (written_at p user) memory
 
 -- what a delete tells
 abbrev pub deleted_told : Policy → ℕ → ℕ → List ℕ → Result (Unit {0}) Refusal
 deleted_told p user key memory =
-    cond (short p memory) (Err (OutOfBounds (length memory)))
-    (change_told (λ w. delete_told w.place.start w.compartment key) user (written_at p user) memory)
+    if short p memory then Err (OutOfBounds (length memory))
+    else change_told (λ w. delete_told w.place.start w.compartment key) user (written_at p user) memory
 
 -- and leaves
 abbrev pub deleted : Policy → ℕ → ℕ → List ℕ → List ℕ
-deleted p user key memory = cond (short p memory) memory (change_memory (delete_after key) (written_at p user) memory)
+deleted p user key memory =
+    if short p memory then memory else change_memory (delete_after key) (written_at p user) memory
 
 -- where a compartment's rows begin, and how many of them there are
 abbrev pub rows_from : Place → ℕ → Part
@@ -62,9 +64,9 @@ rows_from q count = record { start = q.start + 2; count = count }
 -- the numbers of rows of two compartments, or the lowest number of theirs that is out of bounds
 abbrev pub counts_told : Place → Place → List ℕ → Result Counts Refusal
 counts_told from into memory =
-    cond (nat_lt from.start into.start)
-    (both (checked from.start (part from memory)) (λ m. both (checked into.start (part into memory)) (λ n. Ok (record { source = m; destination = n }))))
-    (both (checked into.start (part into memory)) (λ n. both (checked from.start (part from memory)) (λ m. Ok (record { source = m; destination = n }))))
+    if nat_lt from.start into.start
+    then both (checked from.start (part from memory)) (λ m. both (checked into.start (part into memory)) (λ n. Ok (record { source = m; destination = n })))
+    else both (checked into.start (part into memory)) (λ n. both (checked from.start (part from memory)) (λ m. Ok (record { source = m; destination = n })))
 
 -- how many rows there will be
 abbrev pub rows_then : Counts → Copying → ℕ
@@ -79,9 +81,9 @@ planned_told w counts (Some c) memory = raise_told w.compartment (rows_then coun
 abbrev pub planned_memory : Written → Counts → Option Copying → List ℕ → List ℕ
 planned_memory w counts None memory = memory
 planned_memory w counts (Some c) memory =
-    cond (is_ok (raise_told w.compartment (rows_then counts c) (part w.place memory)))
-    (merged_into c (with_part w.place (raise_after (rows_then counts c) (part w.place memory)) memory))
-    (with_part w.place (raise_after (rows_then counts c) (part w.place memory)) memory)
+    if is_ok (raise_told w.compartment (rows_then counts c) (part w.place memory))
+    then merged_into c (with_part w.place (raise_after (rows_then counts c) (part w.place memory)) memory)
+    else with_part w.place (raise_after (rows_then counts c) (part w.place memory)) memory
 
 -- the plan for these numbers of rows
 abbrev pub plan_for : Place → Place → KeyRange → List ℕ → Counts → Option Copying
@@ -112,20 +114,25 @@ itself_memory w memory =
 abbrev pub copy_told : ℕ → KeyRange → Option Written → Option Place → List ℕ → Result (Unit {0}) Refusal
 copy_told c range None from memory = Err (NoFlow c)
 copy_told c range (Some w) None memory = Err (NoFlow c)
-copy_told c range (Some w) (Some from) memory = cond (w.compartment == c) (itself_told w memory) (between_told from w range memory)
+copy_told c range (Some w) (Some from) memory =
+    if w.compartment == c then itself_told w memory else between_told from w range memory
 
 abbrev pub copy_memory : ℕ → KeyRange → Option Written → Option Place → List ℕ → List ℕ
 copy_memory c range None from memory = memory
 copy_memory c range (Some w) None memory = memory
-copy_memory c range (Some w) (Some from) memory = cond (w.compartment == c) (itself_memory w memory) (between_memory from w range memory)
+copy_memory c range (Some w) (Some from) memory =
+    if w.compartment == c then itself_memory w memory else between_memory from w range memory
 
 -- what a copy tells: not allowed, whatever is in the compartments, and else what copying tells
 abbrev pub copied_told : Policy → ℕ → ℕ → KeyRange → List ℕ → Result (Unit {0}) Refusal
 copied_told p user c range memory =
-    cond (short p memory) (Err (OutOfBounds (length memory)))
-    (cond (may_copy (rules_of p) user c) (copy_told c range (written_at p user) (place_at p c) memory) (Err (NoFlow c)))
+    if short p memory then Err (OutOfBounds (length memory))
+    else if may_copy (rules_of p) user c then copy_told c range (written_at p user) (place_at p c) memory
+    else Err (NoFlow c)
 
 -- and leaves
 abbrev pub copied : Policy → ℕ → ℕ → KeyRange → List ℕ → List ℕ
 copied p user c range memory =
-    cond (short p memory) memory (cond (may_copy (rules_of p) user c) (copy_memory c range (written_at p user) (place_at p c) memory) memory)
+    if short p memory then memory
+    else if may_copy (rules_of p) user c then copy_memory c range (written_at p user) (place_at p c) memory
+    else memory

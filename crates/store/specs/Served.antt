@@ -1,10 +1,10 @@
 -- What any request tells, and what memory and the answer row hold afterwards, for every content.
 use Rattle.std.specs.Prelude.{ℕ, List, length, Ok, Err, Result}
-use Rattle.answering.specs.Asked.{asked_told, asked_memory, asked_row}
+use Rattle.memory_query.specs.Asked.{asked_told, asked_memory, asked_row}
 use Rattle.model.specs.Model.{done, refused, answered}
 use Rattle.model.specs.Model as model
 use Rattle.policy.specs.declared.Policy.{Policy}
-use Rattle.policy.specs.declared.refusal.Refusal.{Refusal}
+use Rattle.base.specs.declared.refusal.Refusal.{Refusal}
 use Rattle.query.specs.Numbers.{read_answer}
 use Rattle.query.specs.declared.Outcome.{Outcome}
 use Rattle.request.specs.declared.Request.{Request}
@@ -43,6 +43,17 @@ served_row p memory lent (Write user row) = lent
 served_row p memory lent (Delete user key) = lent
 served_row p memory lent (Copy user c range) = lent
 served_row p memory lent (Ask user query) = asked_row p memory lent user query
+
+-- what a call returns, and what memory and the answer row hold afterwards
+pub record CallResult (X : Type 0) : Type 0 where
+  pub told : Result X Refusal
+  pub memory : List ℕ
+  pub row : List ℕ
+
+-- what any request does, with this answer row lent for it
+abbrev pub serve_result : Policy → List ℕ → List ℕ → Request → CallResult Reply
+serve_result p memory row request =
+    record { told = served_told p memory (length row) request; memory = served_memory p memory (length row) request; row = served_row p memory row request }
 
 -- a response read with the row afterwards: refusals have their numbers and places, answers their rows
 abbrev pub heard : Result Reply Refusal → List ℕ → model.Response

@@ -1,7 +1,7 @@
 -- Memory that holds a state of the model, and that the calls follow the model.
 use Rattle.std.specs.Prelude.{◌≡◌, ℕ, ◌+◌, ◌*◌, ◌<◌, ◌≤◌, List, length, take, drop, Ok, Err, Result}
-use Rattle.answering.specs.Asked.{asked_told, asked_memory, asked_row}
-use Rattle.answering.specs.Tie.{Tells, row_with}
+use Rattle.memory_query.specs.Asked.{asked_told, asked_memory, asked_row}
+use Rattle.memory_query.specs.Tie.{Tells, row_with}
 use Rattle.cache.specs.Entries.{held, OfView}
 use Rattle.compartment.specs.Holding.{Brought}
 use Rattle.compartment.specs.Holding as compartment
@@ -10,7 +10,7 @@ use Rattle.model.specs.Model.{State, Call, Response, done, refused, answered, em
 use Rattle.policy.specs.Access.{rules_of, capacities_of, place_in, memory_length}
 use Rattle.policy.specs.Layout.{end_from}
 use Rattle.policy.specs.declared.Policy.{Policy}
-use Rattle.policy.specs.declared.refusal.Refusal.{Refusal}
+use Rattle.base.specs.declared.refusal.Refusal.{Refusal}
 use Rattle.query.specs.declared.Query.{Query}
 use Rattle.request.specs.declared.Request.TheVariants.{Write, Delete, Copy, Query as Ask}
 use Rattle.rows.specs.declared.KeyRange.{KeyRange}

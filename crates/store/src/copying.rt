@@ -4,8 +4,9 @@ ghost use Rattle.store.specs.Memory.{end};
 ghost use Rattle.store.specs.Calls.{counts_told, between_told, between_memory, itself_told, itself_memory};
 
 use crate::part::part_of;
+use base::Refusal;
 use merge::Part;
-use policy::{Place, Refusal, Written};
+use policy::{Place, Written};
 use rows::KeyRange;
 
 mod counts;

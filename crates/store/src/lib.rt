@@ -4,20 +4,21 @@
 ghost use Rattle.std.specs.Prelude.{◌≡◌, ◌≤◌, length, IfOk};
 ghost use Rattle.std.specs.Option.{ok_or};
 ghost use Rattle.policy.specs.Access.{written_at};
-ghost use Rattle.policy.specs.declared.refusal.Refusal.TheVariants.{NoUser};
+ghost use Rattle.base.specs.declared.refusal.Refusal.TheVariants.{NoUser};
 ghost use Rattle.store.specs.Calls.{both, opened_told, opened, wrote_told, wrote, deleted_told, deleted, copied_told, copied};
 ghost use Rattle.store.specs.Memory.{end};
-ghost use Rattle.store.specs.Served.{served_told, served_memory, served_row};
+ghost use Rattle.store.specs.Served.{serve_result};
 
 mod copying;
 pub mod laws;
 mod part;
 mod reply;
 
-pub use answering::ask;
+use base::Refusal;
 use copying::Between;
+pub use memory_query::ask;
 use part::part_of;
-use policy::{Policy, Refusal, Written};
+use policy::{Policy, Written};
 pub use reply::Reply;
 use request::Request;
 use rows::{KeyRange, Row};
@@ -98,9 +99,9 @@ pub fn serve(
     row: &mut [u64],
     request: Request,
 ) -> Result<Reply, Refusal>
-    ensures told { result ≡ served_told policy.now memory.old (length row.old) request }
-    ensures after { memory.new ≡ served_memory policy.now memory.old (length row.old) request }
-    ensures lent { row.new ≡ served_row policy.now memory.old row.old request }
+    ensures told { result ≡ (serve_result policy.now memory.old row.old request).told }
+    ensures after { memory.new ≡ (serve_result policy.now memory.old row.old request).memory }
+    ensures lent { row.new ≡ (serve_result policy.now memory.old row.old request).row }
 {
     match request {
         Request::Write { user, row } => write(policy, memory, user, row)?,

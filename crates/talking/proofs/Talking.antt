@@ -2,7 +2,7 @@
 use Rattle.std.proofs.Common.{◌≡◌, ℕ, zero, suc, List, [], ◌∷◌, refl, ap, arith}
 use Rattle.rows.specs.declared.Row.{Row}
 use Rattle.policy.specs.Rules.{Rules, Sound}
-use Rattle.policy.specs.declared.refusal.Refusal.TheVariants.{NoRoom}
+use Rattle.base.specs.declared.refusal.Refusal.TheVariants.{NoRoom}
 use Rattle.model.specs.Example.{three}
 use Rattle.model.specs.Model.{Call, Response, purge}
 use Rattle.talking.specs.Frame.{Machine, told, Talks}

@@ -1,7 +1,7 @@
 -- Any store as a machine, what it tells, and what it means that it talks; the model is one of them.
-use Rattle.std.specs.Prelude.{◌≡◌, ℕ, cond, List, [], ◌∷◌, ◌==◌}
+use Rattle.std.specs.Prelude.{◌≡◌, ℕ, if◌then◌else◌, List, [], ◌∷◌, ◌==◌}
 use Rattle.policy.specs.Rules.{Rules, Sound}
-use Rattle.policy.specs.declared.refusal.Refusal.{Refusal}
+use Rattle.base.specs.declared.refusal.Refusal.{Refusal}
 use Rattle.request.specs.declared.Request.{Request}
 use Rattle.model.specs.Model as model
 use Rattle.model.specs.Model.{State, Call, Response, refused, empty, who, response, accepted, next, purge}
@@ -20,7 +20,8 @@ run m s (call ∷ calls) = run m (m.step s call) calls
 abbrev pub told_from : {S : Type 0} → Machine S → ℕ → S → List Call → List Response
 told_from m v s [] = []
 told_from m v s (call ∷ calls) =
-    cond (who call.request == v) (m.response s call ∷ told_from m v (m.step s call) calls) (told_from m v (m.step s call) calls)
+    if who call.request == v then m.response s call ∷ told_from m v (m.step s call) calls
+    else told_from m v (m.step s call) calls
 
 abbrev pub told : {S : Type 0} → Machine S → ℕ → List Call → List Response
 told m v calls = told_from m v m.start calls
@@ -45,7 +46,12 @@ pub record Talks {S : Type 0} (m : Rules → Machine S) (p : Rules) (v : ℕ) (c
 abbrev pub edited : (Rules → State → Request → Response → Response) → ℕ → Rules → Machine State
 edited edit limit p =
     let tell : State → Call → Response = λ s call. edit p s call.request (response p limit s call) in
-    record { start = empty; response = tell; step = λ s call. cond (accepted (tell s call)) (next p s call.request) s }
+    record {
+      start = empty;
+      response = tell;
+      step = λ s call. if accepted (tell s call) then next p s call.request
+          else s;
+    }
 
 -- the model with its own
 abbrev pub unedited : ℕ → Rules → Machine State

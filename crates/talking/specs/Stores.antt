@@ -1,10 +1,10 @@
 -- Stores that talk, and one that changes something where it refuses, each the model but for one thing.
-use Rattle.std.specs.Prelude.{ℕ, zero, suc, Bool, false, cond, not, ◌&&◌, ◌||◌, leb, List, [], ◌∷◌, map, length, Some, None, Option, ◌==◌, nat_eq, nat_le}
+use Rattle.std.specs.Prelude.{ℕ, zero, suc, Bool, false, if◌then◌else◌, not, ◌&&◌, ◌||◌, leb, List, [], ◌∷◌, map, length, Some, None, Option, ◌==◌, nat_eq, nat_le}
 use Rattle.rows.specs.declared.Row.{Row}
 use Rattle.rows.specs.declared.KeyRange.{KeyRange}
 use Rattle.rows.specs.Rows.{amount_of, has_key, put, rows_in}
 use Rattle.policy.specs.Rules.{Rules, has}
-use Rattle.policy.specs.declared.refusal.Refusal.TheVariants.{NoRoom}
+use Rattle.base.specs.declared.refusal.Refusal.TheVariants.{NoRoom}
 use Rattle.query.specs.declared.Query.{Query}
 use Rattle.query.specs.Answers.{total, cost, count_all}
 use Rattle.request.specs.declared.Request.{Request}
@@ -32,7 +32,7 @@ on_query ask other = by_kind (λ user row. other) (λ user compartment range. ot
 -- the compartments in which the first n users write, each once
 abbrev pub written_by : Rules → ℕ → List ℕ
 written_by p zero = []
-written_by p (suc n) = cond (has (written_by p n) (p.writes n)) (written_by p n) (p.writes n ∷ written_by p n)
+written_by p (suc n) = if has (written_by p n) (p.writes n) then written_by p n else p.writes n ∷ written_by p n
 
 -- all compartments that may have rows
 abbrev pub everywhere : Rules → List ℕ
@@ -54,12 +54,13 @@ row_numbers = edited (λ p s request r. on_write (λ user row. numbered (rows_ev
 -- of the first n users the lowest who sees the same in the same order, or else `found`
 abbrev pub first_alike : Rules → ℕ → ℕ → ℕ → ℕ
 first_alike p user found zero = found
-first_alike p user found (suc n) = first_alike p user (cond (same_versions (p.view n) (p.view user)) n found) n
+first_alike p user found (suc n) = first_alike p user (if same_versions (p.view n) (p.view user) then n
+    else found) n
 
 -- a query as if that user had asked it
 abbrev pub asked_as : Rules → Call → Call
 asked_as p call =
-    let alike : ℕ → ℕ = λ user. cond (there p user) (first_alike p user user p.users) user in
+    let alike : ℕ → ℕ = λ user. if there p user then first_alike p user user p.users else user in
     lend (on_query (λ user query. Ask (alike user) query) call.request call.request) call.lent
 
 -- ONE CACHE: all who see the same have one.
@@ -71,12 +72,14 @@ abbrev pub one_capacity : Rules → Machine State
 one_capacity = edited (λ p s request r.
     let capacity = capacities p.capacity (everywhere p) in
     let fits = leb (rows_everywhere p (next p s request)) capacity in
-    on_write (λ user row. cond (there p user) (cond fits (changing most s (p.writes user)) (refused (NoRoom capacity))) r) r request) most
+    on_write (λ user row. if there p user then (if fits then changing most s (p.writes user) else refused (NoRoom capacity))
+    else r) r request) most
 
 -- ALLOWED IF EMPTY: a copy for which there is no row is done, whatever the user sees.
 abbrev pub allowed_if_empty : Rules → Machine State
 allowed_if_empty = edited (λ p s request r.
-    on_copy (λ user c range. cond (there p user && length (rows_in range (s.rows c)) == 0) (changing most s (p.writes user)) r) r request) most
+    on_copy (λ user c range. if there p user && length (rows_in range (s.rows c)) == 0 then changing most s (p.writes user)
+    else r) r request) most
 
 -- another number of rows examined, where an answer was worked out
 abbrev pub examining : ℕ → Option Kept → Response → Response
@@ -99,7 +102,8 @@ taken s c key (d ∷ ds) = (not (c == d) && has_key key (s.rows d)) || taken s c
 abbrev pub one_of_each_key : Rules → Machine State
 one_of_each_key = edited (λ p s request r.
     let refuses : ℕ → Row → Bool = λ user row. there p user && taken s (p.writes user) row.key (everywhere p) in
-    on_write (λ user row. cond (refuses user row) (refused (NoRoom (p.capacity (p.writes user)))) r) r request) most
+    on_write (λ user row. if refuses user row then refused (NoRoom (p.capacity (p.writes user)))
+    else r) r request) most
 
 -- the model's state, and who made the last request
 pub record Recent : Type 0 where
@@ -121,13 +125,19 @@ some_idle_count p =
     record {
       start = record { state = empty; last = 0 };
       response = λ s call. response p most s.state call;
-      step = λ s call. record { state = cond (counts s call.request) (step p most s.state call) s.state; last = who call.request };
+      step = λ s call. record {
+        state =
+            if counts s call.request then step p most s.state call
+            else s.state;
+        last = who call.request;
+      };
     }
 
 -- one by one, as long as there is room
 abbrev pub put_while_room : ℕ → List Row → List Row → List Row
 put_while_room capacity [] xs = xs
-put_while_room capacity (r ∷ rs) xs = cond (nat_le (length (put r xs)) capacity) (put_while_room capacity rs (put r xs)) xs
+put_while_room capacity (r ∷ rs) xs =
+    if nat_le (length (put r xs)) capacity then put_while_room capacity rs (put r xs) else xs
 
 -- what a copy puts as long as there is room
 abbrev pub half : Rules → State → ℕ → ℕ → KeyRange → State
@@ -137,5 +147,6 @@ half p s c source range = changed s c (put_while_room (p.capacity c) (rows_in ra
 abbrev pub half_a_copy : Rules → Machine State
 half_a_copy p =
     let copy : State → ℕ → ℕ → KeyRange → State = λ s user source range.
-    cond (may_copy p user source && accepted (changing most s (p.writes user))) (half p s (p.writes user) source range) s in
+    if may_copy p user source && accepted (changing most s (p.writes user)) then half p s (p.writes user) source range
+    else s in
     record { start = empty; response = response p most; step = λ s call. on_copy (copy s) (step p most s call) call.request }

@@ -3,7 +3,7 @@ use Rattle.std.specs.Prelude.{◌≡◌, ℕ, List, [], ◌∷◌, map}
 use Rattle.rows.specs.declared.Row.{Row}
 use Rattle.rows.specs.declared.KeyRange.{KeyRange}
 use Rattle.policy.specs.Rules.{Rules}
-use Rattle.policy.specs.declared.refusal.Refusal.TheVariants.{NoFlow, NoRoom}
+use Rattle.base.specs.declared.refusal.Refusal.TheVariants.{NoFlow, NoRoom}
 use Rattle.query.specs.declared.Query.TheVariants.{Total, Shared}
 use Rattle.query.specs.Answers.{total, not_seen}
 use Rattle.request.specs.declared.Request.{Request}

@@ -3,7 +3,7 @@ use Rattle.std.proofs.Common.{◌≡◌, ℕ, List, [], ◌∷◌, sym, refl, ap
 use Rattle.std.proofs.lemmas.Bool.{cases_Bool, true≢false, or_left}
 use Rattle.rows.specs.Rows.{amount_of}
 use Rattle.policy.specs.Rules.{Rules}
-use Rattle.policy.specs.declared.refusal.Refusal.TheVariants.{NoRoom}
+use Rattle.base.specs.declared.refusal.Refusal.TheVariants.{NoRoom}
 use Rattle.query.specs.declared.Query.TheVariants.{Total}
 use Rattle.query.specs.Answers.{total, answer}
 use Rattle.request.specs.declared.Request.{Request}

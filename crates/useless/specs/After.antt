@@ -13,5 +13,5 @@ abbrev pub tells : (Rules → Machine State) → Rules → List Call → Call �
 tells m p calls call = (m p).response (after m p calls) call
 
 -- its state after that call
-abbrev pub then : (Rules → Machine State) → Rules → List Call → Call → State
-then m p calls call = (m p).step (after m p calls) call
+abbrev pub next_after : (Rules → Machine State) → Rules → List Call → Call → State
+next_after m p calls call = (m p).step (after m p calls) call

@@ -1,7 +1,7 @@
 -- That the stores are useless that go wrong where something is to be changed: of each what is seen, and the statement that so fails.
-use Rattle.std.specs.Prelude.{◌≡◌, ℕ, zero, suc, cond, List, [], ◌∷◌, length, Some, None, ◌==◌}
+use Rattle.std.specs.Prelude.{◌≡◌, ℕ, zero, suc, if◌then◌else◌, List, [], ◌∷◌, length, Some, None, ◌==◌}
 use Rattle.policy.specs.Rules.{Rules}
-use Rattle.policy.specs.declared.refusal.Refusal.TheVariants.{NoUser, NoFlow, NoRoom, NoRow}
+use Rattle.base.specs.declared.refusal.Refusal.TheVariants.{NoUser, NoFlow, NoRoom, NoRow}
 use Rattle.query.specs.declared.Query.TheVariants.{Total}
 use Rattle.query.specs.Answers.{total}
 use Rattle.request.specs.declared.Request.{Request}
@@ -92,7 +92,7 @@ view_of (suc zero) = 1 ∷ []
 view_of (suc (suc n)) = 0 ∷ 1 ∷ []
 
 abbrev pub within : Rules
-within = record { users = 3; view = view_of; writes = λ user. cond (user == 0) 0 1; capacity = λ c. 1 }
+within = record { users = 3; view = view_of; writes = λ user. if user == 0 then 0 else 1; capacity = λ c. 1 }
 
 -- Rows of compartment 0 may not flow to compartment 1; and yet the copy is done, and its row is where user 1 sees it.
 abbrev pub AnyFlowUseless : Type 0

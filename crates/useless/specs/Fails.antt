@@ -8,7 +8,7 @@ use Rattle.request.specs.declared.Request.TheVariants.{Query as Ask}
 use Rattle.model.specs.Model.{State, lend, Response}
 use Rattle.talking.specs.Frame.{Machine}
 use Rattle.talking.specs.Talks.{calls, digits}
-use Rattle.useless.specs.After.{after, tells, then}
+use Rattle.useless.specs.After.{after, tells, next_after}
 
 -- A STATEMENT FAILS of a store: what is seen there is one thing, and would be another if the statement held.
 pub record Fails {A : Type 0} (Statement : Type 0) (seen is due : A) : Type 0 where
@@ -27,7 +27,7 @@ told_after m p before request = tells m p (calls before) (lend request 100)
 
 -- what a key maps to in a compartment after that
 abbrev pub maps_after : (Rules → Machine State) → Rules → List Request → Request → ℕ → ℕ → Option ℕ
-maps_after m p before request compartment key = amount_of key ((then m p (calls before) (lend request 100)).rows compartment)
+maps_after m p before request compartment key = amount_of key ((next_after m p (calls before) (lend request 100)).rows compartment)
 
 abbrev pub ask : Request
 ask = Ask 0 (Total digits)

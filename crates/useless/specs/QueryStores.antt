@@ -1,7 +1,7 @@
 -- Useless stores that go wrong where something is asked, each the model but for one thing.
-use Rattle.std.specs.Prelude.{ℕ, ◌+◌, ◌*◌, Bool, false, cond, ◌&&◌, List, [], ◌∷◌, take, Some, None, Option, nat_lt}
+use Rattle.std.specs.Prelude.{ℕ, ◌+◌, ◌*◌, Bool, false, if◌then◌else◌, ◌&&◌, List, [], ◌∷◌, take, Some, None, Option, nat_lt}
 use Rattle.policy.specs.Rules.{Rules}
-use Rattle.policy.specs.declared.refusal.Refusal.TheVariants.{ShortRow}
+use Rattle.base.specs.declared.refusal.Refusal.TheVariants.{ShortRow}
 use Rattle.query.specs.declared.Query.{Query}
 use Rattle.query.specs.Answers.{Answer, answer, same_query}
 use Rattle.model.specs.Example.{most}
@@ -28,7 +28,8 @@ none_examined = edited (λ p s request r. answering_with (λ a. a) (λ n. 0) r) 
 -- ANY LENGTH: a query is answered, however short the row that is lent.
 abbrev pub any_length : Rules → Machine State
 any_length = edited (λ p s request r.
-    on_query (λ user query. cond (there p user) (answering p s user query (look_up p s user query)) r) r request) most
+    on_query (λ user query. if there p user then answering p s user query (look_up p s user query)
+    else r) r request) most
 
 -- LONG ROW FIRST: a query is refused with a row that isn't long enough for all that the user sees.
 abbrev pub long_row_first : Rules → Machine State
@@ -36,8 +37,8 @@ long_row_first p =
     let short : Call → Bool = λ call. on_query (λ user query. there p user && nat_lt call.lent (32 + 2 * capacities p.capacity (p.view user))) false call.request in
     record {
       start = empty;
-      response = λ s call. cond (short call) (refused (ShortRow call.lent)) (response p most s call);
-      step = λ s call. cond (short call) s (step p most s call);
+      response = λ s call. if short call then refused (ShortRow call.lent) else response p most s call;
+      step = λ s call. if short call then s else step p most s call;
     }
 
 -- NO CACHE: nothing is kept, so that every query is worked out.
@@ -65,10 +66,11 @@ keeps_every = keeping (λ entries. entries)
 -- what the newest entry with the query keeps, whatever its versions
 abbrev pub newest : Query → List Entry → Option Kept
 newest query [] = None
-newest query (e ∷ es) = cond (same_query query e.query) (Some e.kept) (newest query es)
+newest query (e ∷ es) = if same_query query e.query then Some e.kept else newest query es
 
 -- STALE ANSWERS: what was kept for a query is told again, whether what the user sees was changed since or not.
 abbrev pub stale_answers : Rules → Machine State
 stale_answers =
-    varied (λ p s request r. on_query (λ user query. cond (accepted r) (answering p s user query (newest query (s.cache user))) r) r request)
+    varied (λ p s request r. on_query (λ user query. if accepted r then answering p s user query (newest query (s.cache user))
+    else r) r request)
     (λ p s request t. on_query (λ user query. remembering (take 8) p s user query (newest query (s.cache user))) t request)

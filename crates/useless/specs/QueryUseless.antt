@@ -1,6 +1,6 @@
 -- That the stores are useless that go wrong where something is asked: of each what is seen, and the statement that so fails.
 use Rattle.std.specs.Prelude.{◌≡◌, ℕ, zero, suc, List, [], ◌∷◌, length}
-use Rattle.policy.specs.declared.refusal.Refusal.TheVariants.{ShortRow}
+use Rattle.base.specs.declared.refusal.Refusal.TheVariants.{ShortRow}
 use Rattle.query.specs.declared.Query.TheVariants.{Total, Shared}
 use Rattle.query.specs.Answers.{total, not_seen}
 use Rattle.request.specs.declared.Request.{Request}

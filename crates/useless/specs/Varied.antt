@@ -1,5 +1,5 @@
 -- How a store is made that is the model but for one thing.
-use Rattle.std.specs.Prelude.{ℕ, cond}
+use Rattle.std.specs.Prelude.{ℕ, if◌then◌else◌}
 use Rattle.policy.specs.Rules.{Rules}
 use Rattle.request.specs.declared.Request.{Request}
 use Rattle.request.specs.declared.Request.TheVariants.{Write, Delete, Copy, Query as Ask}
@@ -11,7 +11,12 @@ use Rattle.talking.specs.Frame.{Machine}
 abbrev pub varied : (Rules → State → Request → Response → Response) → (Rules → State → Request → State → State) → Rules → Machine State
 varied tell change p =
     let told : State → Call → Response = λ s call. tell p s call.request (response p most s call) in
-    record { start = empty; response = told; step = λ s call. cond (accepted (told s call)) (change p s call.request (next p s call.request)) s }
+    record {
+      start = empty;
+      response = told;
+      step = λ s call. if accepted (told s call) then change p s call.request (next p s call.request)
+          else s;
+    }
 
 -- the model with its own response, and another next state
 abbrev pub altered : (Rules → State → Request → State → State) → Rules → Machine State

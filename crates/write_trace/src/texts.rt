@@ -8,7 +8,7 @@ const POLICY: &str =
 
 // What is told of a text.
 fn told(heap: Global, text: &str) -> Result<String, AllocError> {
-    match notation::read(heap, text.as_bytes()) {
+    match trace_text::read(heap, text.as_bytes()) {
         Ok(_) => String::from_str(heap, "read"),
         Err(error) => format!(in heap; "{error}"),
     }
@@ -35,8 +35,8 @@ fn tells_request(heap: Global, line: &str, words: &str) -> Result<bool, AllocErr
 fn writes_bytes(rt: HostRuntime) -> Result<(), Fail> {
     let text =
         "# one user\n\nusers 1\n compartments\t1\r\nuser 0 sees 0 writes 0\ncapacity 0 3\n31 delete 258\n0 total 1 4294967295";
-    let trace = notation::read(rt.alloc(), text.as_bytes())?;
-    let bytes = notation::write(rt.alloc(), &trace)?;
+    let trace = trace_text::read(rt.alloc(), text.as_bytes())?;
+    let bytes = trace_text::write(rt.alloc(), &trace)?;
     assert!(rt; bytes.len() == 39);
     let bytes = bytes.as_slice();
     assert!(rt; bytes[0..3] == [1, 1, 1]);

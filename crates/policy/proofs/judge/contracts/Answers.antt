@@ -1,7 +1,7 @@
 -- The lowest user with a bad view is found among the contracts as among the numbers.
 use Rattle.std.proofs.Common.{sym, ap, arith}
 use Rattle.std.specs.Option.{option_map}
-use Rattle.policy.specs.declared.refusal.Refusal.TheVariants.{BadView}
+use Rattle.base.specs.declared.refusal.Refusal.TheVariants.{BadView}
 use Rattle.policy.proofs.Reading.{views_by, all_stand}
 use Rattle.policy.proofs.judge.contracts.Goals as goal
 

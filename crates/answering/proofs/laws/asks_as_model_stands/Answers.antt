@@ -1,6 +1,0 @@
--- The theorems that the contract names.
-use Rattle.answering.proofs.Tied.{queries_as_model, queries_with_row}
-use Rattle.answering.proofs.laws.asks_as_model_stands.Goals as goal
-
-pub returns : goal.returns
-returns c = record { model = queries_as_model; row = queries_with_row }

@@ -1,6 +1,0 @@
--- The theorem that the contract names.
-use Rattle.answering.proofs.Resting.{rest_does_not_show}
-use Rattle.answering.proofs.laws.rest_does_not_show_stands.Goals as goal
-
-pub returns : goal.returns
-returns c = rest_does_not_show

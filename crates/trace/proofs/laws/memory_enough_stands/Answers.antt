@@ -1,6 +1,0 @@
--- The law is proved in Sufficient.
-use Rattle.trace.proofs.Sufficient.{memory_enough}
-use Rattle.trace.proofs.laws.memory_enough_stands.Goals as goal
-
-pub returns : goal.returns
-returns c = memory_enough

@@ -1,6 +1,0 @@
--- The law is proved in Sufficient.
-use Rattle.trace.proofs.Sufficient.{never_short}
-use Rattle.trace.proofs.laws.never_short_stands.Goals as goal
-
-pub returns : goal.returns
-returns c = never_short

@@ -1,6 +1,0 @@
--- The law is proved in Sufficient.
-use Rattle.trace.proofs.Sufficient.{row_enough}
-use Rattle.trace.proofs.laws.row_enough_stands.Goals as goal
-
-pub returns : goal.returns
-returns c = row_enough

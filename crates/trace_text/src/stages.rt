@@ -1,0 +1,61 @@
+// What comes next in a text, by the numbers of the policy so far.
+ghost use Rattle.trace_text.specs.Lines.{behind_counts, single_numbers, stage_of};
+ghost use Rattle.std.specs.Prelude.{◌≡◌, ◌≤◌};
+
+use base::USERS;
+use policy::{COUNTS, USER};
+
+// What comes next. The order of a text's lines is its format, and the numbers so far say where in it a line stands: so it is told anew, and no step is kept.
+#[derive(Clone, Copy)]
+pub(crate) enum Stage {
+    Users,
+    Compartments,
+    User { user: usize, compartments: u64 },
+    Capacity { compartment: usize },
+    Requests,
+}
+
+// How many numbers of a policy are a byte each.
+// A rule of its own: `wire` looks at the count of compartments too, and reads no wide numbers if either count is out of bounds.
+pub(crate) fn single_numbers(numbers: &[u64]) -> usize
+    ensures { result ≡ single_numbers numbers.now }
+{
+    // A missing number counts as 0.
+    let users = numbers.first().copied().unwrap_or(0);
+    if users > USERS as u64 {
+        COUNTS
+    } else {
+        COUNTS + USER * users as usize
+    }
+}
+
+pub(crate) fn stage_of(numbers: &[u64]) -> Stage
+    ensures { result ≡ stage_of numbers.now }
+{
+    match numbers {
+        [] => Stage::Users,
+        [_] => Stage::Compartments,
+        [_, compartments, ..] => {
+            behind_counts(numbers.len(), single_numbers(numbers), *compartments)
+        }
+    }
+}
+
+// What comes next behind so many numbers, two counts among them.
+fn behind_counts(count: usize, single: usize, compartments: u64) -> Stage
+    requires { 2 ≤ count }
+    ensures { result ≡ behind_counts count single compartments }
+{
+    if count < single {
+        return Stage::User {
+            user: (count - COUNTS) / USER,
+            compartments,
+        };
+    }
+    let compartment = count - single;
+    if (compartment as u64) < compartments {
+        Stage::Capacity { compartment }
+    } else {
+        Stage::Requests
+    }
+}

@@ -1,6 +1,0 @@
--- The law is proved in Writing.
-use Rattle.wire.proofs.Writing.{request_round_trip}
-use Rattle.wire.proofs.laws.request_round_trip_stands.Goals as goal
-
-pub returns : goal.returns
-returns c = request_round_trip

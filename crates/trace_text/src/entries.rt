@@ -1,5 +1,5 @@
 // What a line adds to a trace.
-ghost use Rattle.trace_text.specs.Lines.{capacity_said, count_said, then};
+ghost use Rattle.trace_text.specs.Lines.{capacity_said, count_said, and_then};
 ghost use Rattle.trace_text.specs.Said.{adds, adds_if, entry_at, entry_said};
 ghost use Rattle.std.specs.Prelude.{◌≡◌, Ok};
 
@@ -42,7 +42,7 @@ fn capacity_in(line: Line, compartment: usize) -> Result<u64, Reason>
 }
 
 fn entry_at(line: Line, stage: Stage) -> Result<Entry, Reason>
-    ensures { then result (λ e. Ok (adds e)) ≡ entry_at stage line.entry.bytes.now }
+    ensures { and_then result (λ e. Ok (adds e)) ≡ entry_at stage line.entry.bytes.now }
 {
     match stage {
         Stage::Users => count_in(line, Name::Users, USERS).map(Entry::Count),
@@ -55,7 +55,7 @@ fn entry_at(line: Line, stage: Stage) -> Result<Entry, Reason>
 
 // What a line adds, if it is not silent.
 pub(crate) fn entry_in(numbers: &[u64], line: Line) -> Result<Option<Entry>, Reason>
-    ensures { then result (λ e. Ok (adds_if e)) ≡ entry_said numbers.now line.entry.bytes.now }
+    ensures { and_then result (λ e. Ok (adds_if e)) ≡ entry_said numbers.now line.entry.bytes.now }
 {
     if line.is_silent() {
         return Ok(None);

@@ -1,5 +1,5 @@
 // Reading a text line by line.
-ghost use Rattle.trace_text.specs.Lines.{then};
+ghost use Rattle.trace_text.specs.Lines.{and_then};
 ghost use Rattle.trace_text.specs.Said.{Tells, added, adds, at_line, line_said, lines_said, said_of, whole};
 ghost use Rattle.trace_text.specs.Words.{lines};
 ghost use Rattle.std.specs.Prelude.{◌≡◌, length, Ok, OnOk};
@@ -61,7 +61,7 @@ impl Trace {
 
     // Whether the text may end behind the line of this number.
     fn whole(&self, number: usize) -> Result<(), Fault>
-        ensures { then result (λ _. Ok (said_of self.now)) ≡ at_line number (whole (said_of self.now)) }
+        ensures { and_then result (λ _. Ok (said_of self.now)) ≡ at_line number (whole (said_of self.now)) }
     {
         match stage_of(self.numbers.as_slice()) {
             Stage::Users | Stage::Compartments | Stage::User { .. } | Stage::Capacity { .. } => {

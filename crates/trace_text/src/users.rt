@@ -1,6 +1,6 @@
 // A user's contract, from a line.
 ghost use Rattle.std.specs.Prelude.{◌≡◌, ◌≤◌, length, Ok, IfOk};
-ghost use Rattle.trace_text.specs.Lines.{then, user_said, view_from, view_said};
+ghost use Rattle.trace_text.specs.Lines.{and_then, user_said, view_from, view_said};
 ghost use Rattle.trace_text.specs.Said.{seen_of};
 
 use crate::fault::Reason;
@@ -12,7 +12,7 @@ use policy::Contract;
 // The numbers behind `sees`, up to the word `writes`.
 // By place and not over the words: where the line ends too soon, the word that is missing is told as no number.
 fn view_in(line: Line) -> Result<ArrayList<u64, COMPARTMENTS>, Reason>
-    ensures value { then result (λ view. Ok view.items) ≡ view_from 16 line.entry.bytes.now 3 }
+    ensures value { and_then result (λ view. Ok view.items) ≡ view_from 16 line.entry.bytes.now 3 }
     ensures few { IfOk result (λ view. length view.items ≤ 16) }
 {
     let mut view = ArrayList::new(0);
@@ -27,7 +27,7 @@ fn view_in(line: Line) -> Result<ArrayList<u64, COMPARTMENTS>, Reason>
 
 // What stands behind `sees`.
 fn seen_in(line: Line, compartments: u64) -> Result<Contract, Reason>
-    ensures { then result (λ c. Ok (seen_of c)) ≡ view_said compartments line.entry.bytes.now }
+    ensures { and_then result (λ c. Ok (seen_of c)) ≡ view_said compartments line.entry.bytes.now }
 {
     let view = view_in(line)?;
     let place = 3 + view.as_slice().len() as u8;
@@ -42,7 +42,7 @@ fn seen_in(line: Line, compartments: u64) -> Result<Contract, Reason>
 }
 
 pub(crate) fn user_in(line: Line, user: usize, compartments: u64) -> Result<Contract, Reason>
-    ensures { then result (λ c. Ok (seen_of c)) ≡ user_said user compartments line.entry.bytes.now }
+    ensures { and_then result (λ c. Ok (seen_of c)) ≡ user_said user compartments line.entry.bytes.now }
 {
     line.named(0, Name::User)?;
     line.next_number(1, user)?;

@@ -1,4 +1,5 @@
 """The store's rules once more, in Python, as docs/MODEL.md has them: what a trace in text prints, to compare the programs with."""
+import itertools
 
 
 class Store:
@@ -72,9 +73,9 @@ class Store:
 def play(text):
     """The lines that a trace in text prints."""
     store, lines = Store(), []
-    for line in text.splitlines():
-        words = line.split()
-        if not words or words[0].startswith('#'):
+    for line in text.removeprefix('\ufeff').splitlines():
+        words = list(itertools.takewhile(lambda word: not word.startswith('#'), line.split()))
+        if not words:
             continue
         if words[0].isdigit():
             user = int(words[0])

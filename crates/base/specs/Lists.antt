@@ -1,6 +1,7 @@
--- A list in an array: the items, and what lies behind them.
+-- A list in an array.
 use Rattle.std.specs.Prelude.{List}
 
-pub record Listed (X : Type 0) : Type 0 where
+-- the items of the list, and what the array holds after them
+pub record ArrayContents (X : Type 0) : Type 0 where
   pub items : List X
-  pub behind : List X
+  pub rest : List X

@@ -14,7 +14,7 @@ number_of (NoRow key) = 6
 number_of (ShortRow length) = 7
 number_of (LastVersion compartment) = 8
 
--- a refused copy stands behind the 32 users
+-- a compartment whose rows may not be copied comes after the 32 users
 abbrev pub place_of : Refusal → ℕ
 place_of (OutOfBounds place) = place
 place_of (BadView user) = user

@@ -1,12 +1,13 @@
-// A list of at most N values in an array of its own: it is copied whole, and nothing is allocated.
+// A list of at most N items in an array of its own.
 ghost use Rattle.std.specs.Prelude.{◌≡◌, ◌≤◌, ◌++◌, ◌∷◌, [], ⊤, if◌then◌else◌, length, take, nat_le, nat_lt};
 ghost use Rattle.std.specs.Option.{option_map};
 
 use std::alloc::AllocError;
 use std::marker::Model;
 
-// The first `count` items are the list; what lies behind them says nothing. `arrayvec::ArrayVec` isn't Copy, and a policy is.
+/// A list of at most N items: it is `Copy` where its items are, and nothing is allocated.
 pub struct ArrayList<T, const N: usize> {
+    // The first `count` items are the list.
     items: [T; N],
     count: usize,
 }
@@ -14,15 +15,15 @@ pub struct ArrayList<T, const N: usize> {
 impl<T, const N: usize> Model for ArrayList<T, N> {
     ghost use Rattle.std.specs.Prelude.{◌≡◌, ◌≤◌, ◌++◌, length, take, drop};
     ghost use Rattle.std.proofs.Common.{arith, take-append-drop, length-take-le};
-    ghost use Rattle.base.specs.Lists.{Listed};
+    ghost use Rattle.base.specs.Lists.{ArrayContents};
 
-    ghost Value = { Listed T };
+    ghost Value = { ArrayContents T };
 
-    ghost view = { λ l. record { items = take l.count l.items; behind = drop l.count l.items } };
+    ghost view = { λ l. record { items = take l.count l.items; rest = drop l.count l.items } };
 
     ghost invariant = { λ l. (l.count ≤ N) × (length l.items ≡ N) };
 
-    ghost inverse = { λ l. record { items = l.items ++ l.behind; count = length l.items } };
+    ghost inverse = { λ l. record { items = l.items ++ l.rest; count = length l.items } };
 
     ghost inverse_ok = { λ l h i. record {
       items = take-append-drop l.count l.items i;
@@ -44,7 +45,7 @@ impl<T: Copy, const N: usize> Clone for ArrayList<T, N> {
 }
 
 impl<T: Copy, const N: usize> ArrayList<T, N> {
-    // A list of nothing; `filler` lies behind it.
+    /// An empty list; the array is filled with `filler`.
     pub fn new(filler: T) -> Self
         ensures { result.items ≡ [] }
     {
@@ -54,7 +55,7 @@ impl<T: Copy, const N: usize> ArrayList<T, N> {
         }
     }
 
-    // A list of these items, if they fit.
+    /// A list of these items, if they fit; the rest of the array is filled with `filler`.
     pub fn of(items: &[T], filler: T) -> Option<Self>
         ensures { option_map (λ l. l.items) result ≡ (if nat_le (length items.now) N then Some items.now else None) }
     {
@@ -70,6 +71,7 @@ impl<T: Copy, const N: usize> ArrayList<T, N> {
         })
     }
 
+    /// The items.
     pub fn as_slice(&self) -> &[T]
         ensures value { result.now ≡ self.now.items }
         ensures few { length result.now ≤ N }
@@ -77,7 +79,7 @@ impl<T: Copy, const N: usize> ArrayList<T, N> {
         &self.items[..self.count]
     }
 
-    // Puts an item at the end, or hands it back where the list is full.
+    /// Puts an item at the end, or hands it back where the list is full.
     pub fn push(&mut self, item: T) -> Result<(), T>
         ensures list { self.new.items ≡ take N (self.old.items ++ item ∷ []) }
         ensures full { result ≡ (if nat_lt (length self.old.items) N then Ok record {} else Err item) }
@@ -89,4 +91,22 @@ impl<T: Copy, const N: usize> ArrayList<T, N> {
         self.count += 1;
         Ok(())
     }
+
+    /// Puts items at the end, as many of them as there is room for.
+    pub fn extend(&mut self, items: &[T])
+        ensures { self.new.items ≡ take N (self.old.items ++ items.now) }
+    {
+        self.count = fill(&mut self.items[..], self.count, items);
+    }
+}
+
+// Copies items to a place, as many of them as there is room for, and returns where they end.
+fn fill<T: Copy>(all: &mut [T], start: usize, items: &[T]) -> usize
+    requires { start ≤ length all.old }
+    ensures after { take result all.new ≡ take (length all.old) (take start all.old ++ items.now) }
+    ensures end { result ≤ length all.old }
+{
+    let end = start + items.len().min(all.len() - start);
+    all[start..end].copy_from_slice(&items[..end - start]);
+    end
 }

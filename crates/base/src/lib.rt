@@ -1,4 +1,5 @@
-//! What all floors share: refusals with their numbers and places, lists in arrays, and how many users and compartments there may be.
+//! What all floors share: refusals with their numbers and places, lists in arrays, and how many users and compartments
+//! there may be.
 #![tactic(auto)]
 
 mod array_list;

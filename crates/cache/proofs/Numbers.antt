@@ -11,8 +11,8 @@ use Rattle.std.specs.Option.{option_or}
 use Rattle.std.specs.Simd.{first_chunks}
 use Rattle.query.specs.declared.Query.{Query}
 use Rattle.query.specs.declared.Query.TheVariants.{Rows as AskRows, Total as AskTotal, Shared as AskShared}
-use Rattle.cache.specs.declared.Kept.{Kept}
-use Rattle.cache.specs.Places.{query_numbers, key_numbers, kept_numbers, sixteen, same_numbers, kept_in, found_in, moved_back}
+use Rattle.cache.specs.declared.CachedAnswer.{CachedAnswer}
+use Rattle.cache.specs.CachePlaces.{query_numbers, key_numbers, answer_numbers, sixteen_versions, same_numbers, read_place, find_in, put_first}
 use Rattle.cache.proofs.FirstFound.{first_found}
 
 pub same_decides : (xs ys : List ℕ) → Decides (same_numbers xs ys) (xs ≡ ys)
@@ -23,7 +23,7 @@ pub same_if_equal : (xs ys : List ℕ) (r : Bool) → r ≡ pointwise (λ a b. e
 same_if_equal xs ys r m = same_from_decides (same_numbers xs ys) r (same_decides xs ys) (slice_eq-Decides Decides-eqb xs ys r m)
 
 -- versions over zeros
-pub sixteen_is : (vs : List ℕ) (n : ℕ) → n ≡ min (length vs) 16 → take n vs ++ drop n (replicate 16 0) ≡ sixteen vs
+pub sixteen_is : (vs : List ℕ) (n : ℕ) → n ≡ min (length vs) 16 → take n vs ++ drop n (replicate 16 0) ≡ sixteen_versions vs
 sixteen_is vs n e = elim (cases_lt 16 (length vs)) [
   | inl h ↦ let f : n ≡ 16 = omega arith in rw f (append-nil (take 16 vs) ∙ sym (take-append-le 16 vs (replicate 16 0) (omega arith)))
   | inr h ↦
@@ -44,10 +44,10 @@ key_made query vs q ys n e f g = rw (e, f) (made query)
     made (AskShared a b range) = let h : 5 + n - 5 ≡ n = omega arith in rw (h, sixteen_is vs n g)
 
 -- a move and two writes
-pub first_put : (xs key : List ℕ) (kept : Kept) (n : ℕ) → 24 ≤ length xs → length key ≡ 21 → n ≡ length xs / 24 * 24 - 24 →
-    put_mid 21 3 (put_mid 0 21 (paste xs 24 xs n) key) (kept_numbers kept) ≡ moved_back (length xs / 24 * 24) (key ++ kept_numbers kept) xs
+pub first_put : (xs key : List ℕ) (kept : CachedAnswer) (n : ℕ) → 24 ≤ length xs → length key ≡ 21 → n ≡ length xs / 24 * 24 - 24 →
+    put_mid 21 3 (put_mid 0 21 (paste xs 24 xs n) key) (answer_numbers kept) ≡ put_first (length xs / 24 * 24) (key ++ answer_numbers kept) xs
 first_put xs key kept n h e g =
-    let own = kept_numbers kept in
+    let own = answer_numbers kept in
     let all = length xs / 24 * 24 in
     let rest = take n xs ++ drop (24 + n) xs in
     let moved : paste xs 24 xs n ≡ take 24 xs ++ rest = append_assoc (take 24 xs) (take n xs) (drop (24 + n) xs) in
@@ -56,7 +56,7 @@ first_put xs key kept n h e g =
     rw (moved, take_at key (drop 21 (take 24 xs ++ rest)) 21 e, drop_at key (drop 21 (take 24 xs ++ rest)) 21 e, drop-drop 3 21 (take 24 xs ++ rest), back, a, g)
     (sym (append_assoc key own (take (all - 24) xs ++ drop all xs)))
 
--- the first of some places, one by one
-pub found_in_chunks : (n : ℕ) (key xs : List ℕ) → first_found (kept_in key) (first_chunks 24 n xs) ≡ found_in n key xs
+-- the first of some places, place after place
+pub found_in_chunks : (n : ℕ) (key xs : List ℕ) → first_found (read_place key) (first_chunks 24 n xs) ≡ find_in n key xs
 found_in_chunks zero key xs = refl
-found_in_chunks (suc n) key xs = ap (option_or (kept_in key (take 24 xs))) (found_in_chunks n key (drop 24 xs))
+found_in_chunks (suc n) key xs = ap (option_or (read_place key (take 24 xs))) (found_in_chunks n key (drop 24 xs))

@@ -5,9 +5,9 @@ use Rattle.std.proofs.lemmas.Bool.{cases_Bool, and_parts, eqb-true}
 use Rattle.rows.specs.declared.KeyRange.{KeyRange}
 use Rattle.query.specs.declared.Query.{Query}
 use Rattle.query.specs.declared.Query.TheVariants.{Rows as AskRows, Total as AskTotal, Shared as AskShared}
-use Rattle.cache.specs.declared.Kept.{Kept}
-use Rattle.cache.specs.declared.Kept.TheVariants.{Rows, Total, Shared, NotSeen}
-use Rattle.cache.specs.Places.{query_numbers, sixteen, key_numbers, kept_numbers, kept_of, same_numbers, kept_in}
+use Rattle.cache.specs.declared.CachedAnswer.{CachedAnswer}
+use Rattle.cache.specs.declared.CachedAnswer.TheVariants.{Rows, Total, Shared, NotSeen}
+use Rattle.cache.specs.CachePlaces.{query_numbers, sixteen_versions, key_numbers, answer_numbers, answer_from, same_numbers, read_place}
 use Rattle.cache.proofs.Numbers.{same_decides}
 use Rattle.cache.proofs.Stored.{length_query}
 
@@ -31,12 +31,12 @@ query_told (AskShared a b r) (AskTotal s) e = absurd (omega (arith, at 0 e))
 query_told (AskShared a b r) (AskShared c d s) e = λ i. AskShared (at 3 e i) (at 4 e i) (same_range r s (at 1 e) (at 2 e) i)
 
 pub key_told : (query other : Query) (versions others : List ℕ) → same_numbers (key_numbers query versions) (key_numbers other others) ≡ true →
-    (query ≡ other) × (sixteen versions ≡ sixteen others)
+    (query ≡ other) × (sixteen_versions versions ≡ sixteen_versions others)
 key_told query other vs ws h =
     let e = (same_decides (key_numbers query vs) (key_numbers other ws)).0 h in (
       query_told query other
-          (sym (take_at (query_numbers query) (sixteen vs) 5 (length_query query)) ∙ ap (take 5) e ∙ take_at (query_numbers other) (sixteen ws) 5 (length_query other)),
-      sym (drop_at (query_numbers query) (sixteen vs) 5 (length_query query)) ∙ ap (drop 5) e ∙ drop_at (query_numbers other) (sixteen ws) 5 (length_query other),
+          (sym (take_at (query_numbers query) (sixteen_versions vs) 5 (length_query query)) ∙ ap (take 5) e ∙ take_at (query_numbers other) (sixteen_versions ws) 5 (length_query other)),
+      sym (drop_at (query_numbers query) (sixteen_versions vs) 5 (length_query query)) ∙ ap (drop 5) e ∙ drop_at (query_numbers other) (sixteen_versions ws) 5 (length_query other),
     )
 
 -- WHAT IS KEPT
@@ -50,15 +50,15 @@ three kind rows amount n h =
     let m = eqb-true amount 0 b.1 in
     cc
 
-kept_told : (kind rows amount : ℕ) (kept : Kept) → kept_of kind rows amount ≡ Some kept → kind ∷ rows ∷ amount ∷ [] ≡ kept_numbers kept
+kept_told : (kind rows amount : ℕ) (kept : CachedAnswer) → answer_from kind rows amount ≡ Some kept → kind ∷ rows ∷ amount ∷ [] ≡ answer_numbers kept
 kept_told kind rows amount kept h = elim (cases_Bool (eqb kind 1 && (eqb rows 0 && eqb amount 0))) [
-  | inl a ↦ let e = rw a at h in let f : Rows ≡ kept = cc in three kind rows amount 1 a ∙ ap kept_numbers f
+  | inl a ↦ let e = rw a at h in let f : Rows ≡ kept = cc in three kind rows amount 1 a ∙ ap answer_numbers f
   | inr a ↦ let g = rw a at h in elim (cases_Bool (eqb kind 2)) [
-    | inl b ↦ let e = rw b at g in let f : Total rows amount ≡ kept = cc in rw (eqb-true kind 2 b) (ap kept_numbers f)
+    | inl b ↦ let e = rw b at g in let f : Total rows amount ≡ kept = cc in rw (eqb-true kind 2 b) (ap answer_numbers f)
     | inr b ↦ let i = rw b at g in elim (cases_Bool (eqb kind 3 && (eqb rows 0 && eqb amount 0))) [
-      | inl c ↦ let e = rw c at i in let f : Shared ≡ kept = cc in three kind rows amount 3 c ∙ ap kept_numbers f
+      | inl c ↦ let e = rw c at i in let f : Shared ≡ kept = cc in three kind rows amount 3 c ∙ ap answer_numbers f
       | inr c ↦ let j = rw c at i in elim (cases_Bool (eqb kind 4 && (eqb rows 0 && eqb amount 0))) [
-        | inl d ↦ let e = rw d at j in let f : NotSeen ≡ kept = cc in three kind rows amount 4 d ∙ ap kept_numbers f
+        | inl d ↦ let e = rw d at j in let f : NotSeen ≡ kept = cc in three kind rows amount 4 d ∙ ap answer_numbers f
         | inr d ↦ let e = rw d at j in absurd cc
       ]
     ]
@@ -73,12 +73,12 @@ three_left (x ∷ y ∷ z ∷ []) h = refl
 three_left (x ∷ y ∷ z ∷ w ∷ xs) h = absurd (omega arith)
 
 -- a place that keeps something has its numbers and no others
-pub place_told : (key place : List ℕ) (kept : Kept) → length place ≡ 24 → kept_in key place ≡ Some kept → place ≡ key ++ kept_numbers kept
+pub place_told : (key place : List ℕ) (kept : CachedAnswer) → length place ≡ 24 → read_place key place ≡ Some kept → place ≡ key ++ answer_numbers kept
 place_told key place kept h e = elim (cases_Bool (same_numbers key (take 21 place))) [
   | inl t ↦
       let k = (same_decides key (take 21 place)).0 t in
       let o = kept_told (get_or place 21 0) (get_or place 22 0) (get_or place 23 0) kept (rw t at e) in
-      let d : drop 21 place ≡ kept_numbers kept =
+      let d : drop 21 place ≡ answer_numbers kept =
       three_left (drop 21 place) (omega (arith, length-drop 21 place)) ∙ rw (get_or-drop 21 place 0 0, get_or-drop 21 place 1 0, get_or-drop 21 place 2 0) o in
       sym (take-append-drop 21 place) ∙ rw (k, d)
   | inr t ↦ let f = rw t at e in absurd cc

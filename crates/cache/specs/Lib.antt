@@ -1,5 +1,4 @@
 -- What the contracts of this crate cite, and the laws over it.
-pub mod Kept
-pub mod Places
+pub mod CachePlaces
 pub mod Entries
 pub mod Laws

@@ -1,82 +1,83 @@
-// The answers kept for a user, newest first: looked up by the query and the versions of what the user sees, and kept in front.
+//! The answers kept for a user, newest first: looked up by the query and the versions of what the user sees.
 #![tactic(auto)]
 
 ghost use Rattle.std.specs.Prelude.{◌≡◌, ◌*◌, ◌/◌, ◌≤◌, ◌++◌, length, slice_index};
 ghost use Rattle.std.specs.Result.{result_ok};
-ghost use Rattle.cache.specs.Kept.{kept_from};
-ghost use Rattle.cache.specs.Places.{query_numbers, key_numbers, kept_numbers, kept_of, kept_in, found_in, look_up, moved_back, keep_in};
+ghost use Rattle.cache.specs.CachePlaces.{cached_from, query_numbers, key_numbers, answer_numbers, answer_from, read_place, find_in, look_up, put_first, keep_in};
 
 use base::COMPARTMENTS;
-use query::{Answered, Query};
+use query::{AnswerSummary, Query};
 use rows::KeyRange;
 
 pub mod laws;
 
-// What is kept of an answer: of rows only which kind they are, since they are worked out again when told.
+/// What is kept of an answer: of rows only which kind they are, since they are worked out again when told.
 #[derive(Clone, Copy, PartialEq, Eq, Debug)]
-pub enum Kept {
-    // The rows of the range in each compartment of the view.
+pub enum CachedAnswer {
+    /// The rows of the range in each compartment of the view.
     Rows,
-    // How many rows there are in the range, and the sum of their amounts: numbers of memory both.
+    /// How many rows there are in the range, and the sum of their amounts: numbers of memory both.
     Total { rows: u64, amount: u64 },
-    // The rows of one compartment whose keys are in another.
+    /// The rows of one compartment whose keys are in another.
     Shared,
-    // The user doesn't see both compartments.
+    /// The user does not see both compartments.
     NotSeen,
 }
 
-impl From<Answered> for Kept {
-    ghost from_gives = { λ answered kept. kept ≡ kept_from answered };
+impl From<AnswerSummary> for CachedAnswer {
+    ghost from_gives = { λ answered kept. kept ≡ cached_from answered };
 
-    fn from(answered: Answered) -> Kept {
+    fn from(answered: AnswerSummary) -> CachedAnswer {
         match answered {
-            Answered::Rows { .. } => Kept::Rows,
-            Answered::Total { rows, amount } => Kept::Total {
+            AnswerSummary::Rows { .. } => CachedAnswer::Rows,
+            AnswerSummary::Total { rows, amount } => CachedAnswer::Total {
                 rows: rows as u64,
                 amount,
             },
-            Answered::Shared { .. } => Kept::Shared,
-            Answered::NotSeen => Kept::NotSeen,
+            AnswerSummary::Shared { .. } => CachedAnswer::Shared,
+            AnswerSummary::NotSeen => CachedAnswer::NotSeen,
         }
     }
 }
 
-// Numbers that no answer has keep nothing.
+/// Numbers that are not those of an answer.
 #[derive(Clone, Copy, PartialEq, Eq, Debug)]
 pub struct NoAnswer;
 
 // What is kept, in memory: its kind and two numbers.
-impl From<Kept> for [u64; KEPT] {
-    ghost from_gives = { λ kept numbers. numbers ≡ kept_numbers kept };
+impl From<CachedAnswer> for [u64; KEPT] {
+    ghost from_gives = { λ kept numbers. numbers ≡ answer_numbers kept };
 
-    fn from(kept: Kept) -> [u64; KEPT] {
+    fn from(kept: CachedAnswer) -> [u64; KEPT] {
         match kept {
-            Kept::Rows => [1, 0, 0],
-            Kept::Total { rows, amount } => [2, rows, amount],
-            Kept::Shared => [3, 0, 0],
-            Kept::NotSeen => [4, 0, 0],
+            CachedAnswer::Rows => [1, 0, 0],
+            CachedAnswer::Total { rows, amount } => [2, rows, amount],
+            CachedAnswer::Shared => [3, 0, 0],
+            CachedAnswer::NotSeen => [4, 0, 0],
         }
     }
 }
 
 // And back.
-impl TryFrom<[u64; KEPT]> for Kept {
+impl TryFrom<[u64; KEPT]> for CachedAnswer {
     type Error = NoAnswer;
 
-    ghost try_from_gives = { λ numbers kept. result_ok kept ≡ kept_of (slice_index numbers 0) (slice_index numbers 1) (slice_index numbers 2) };
+    ghost try_from_gives = { λ numbers kept. result_ok kept
+        ≡ answer_from (slice_index numbers 0) (slice_index numbers 1) (slice_index numbers 2) };
 
-    fn try_from(numbers: [u64; KEPT]) -> Result<Kept, NoAnswer> {
+    fn try_from(numbers: [u64; KEPT]) -> Result<CachedAnswer, NoAnswer> {
         match numbers {
-            [1, 0, 0] => Ok(Kept::Rows),
-            [2, rows, amount] => Ok(Kept::Total { rows, amount }),
-            [3, 0, 0] => Ok(Kept::Shared),
-            [4, 0, 0] => Ok(Kept::NotSeen),
+            [1, 0, 0] => Ok(CachedAnswer::Rows),
+            [2, rows, amount] => Ok(CachedAnswer::Total { rows, amount }),
+            [3, 0, 0] => Ok(CachedAnswer::Shared),
+            [4, 0, 0] => Ok(CachedAnswer::NotSeen),
             _ => Err(NoAnswer),
         }
     }
 }
 
-// A place is 24 numbers: the query in five, a version for each compartment there may be, and what is kept in three. Its first 21 are the key.
+// A place is 24 numbers: the query in five, a version for each compartment there may be, and what is kept in three.
+// Its first 21 are the key.
 const QUERY: usize = 5;
 
 const KEPT: usize = 3;
@@ -85,16 +86,18 @@ const KEY: usize = QUERY + COMPARTMENTS;
 
 const PLACE: usize = KEY + KEPT;
 
-// What the newest place with this query and these versions keeps. Versions past sixteen are not looked at, fewer are followed by 0.
-// A place with numbers that no answer has is passed over, and what is left of the slice behind whole places belongs to none.
-pub fn look_up(places: &[u64], query: Query, versions: &[u64]) -> Option<Kept>
+/// What the newest place with this query and these versions keeps. Only the first sixteen versions count, and where
+/// there are fewer, the others are 0. A place with numbers that are not those of an answer is passed over, and so is
+/// what is left of the slice after the last whole place.
+pub fn look_up(places: &[u64], query: Query, versions: &[u64]) -> Option<CachedAnswer>
     ensures { result ≡ look_up query versions.now places.now }
 {
     newest(places, &key_numbers(query, versions))
 }
 
-// Keeps an answer in front: every place moves back by one, and the oldest goes. A slice too short for a place stays as it is.
-pub fn keep(places: &mut [u64], query: Query, versions: &[u64], kept: Kept)
+/// Keeps an answer in the first place: all others move back by one, and the oldest goes. A slice too short for a place
+/// stays as it is.
+pub fn keep(places: &mut [u64], query: Query, versions: &[u64], kept: CachedAnswer)
     ensures { places.new ≡ keep_in query versions.now kept places.old }
 {
     if places.len() >= PLACE {
@@ -103,10 +106,9 @@ pub fn keep(places: &mut [u64], query: Query, versions: &[u64], kept: Kept)
 }
 
 // Moves all places but the last back by one, and writes the first: its key, then what it keeps.
-// By `copy_within`, one memmove: what a slice holds after `as_chunks_mut` no contract says.
-fn put_first(places: &mut [u64], key: &[u64; KEY], kept: Kept)
+fn put_first(places: &mut [u64], key: &[u64; KEY], kept: CachedAnswer)
     requires { 24 ≤ length places.old }
-    ensures { places.new ≡ moved_back (length places.old / 24 * 24) (key.now ++ kept_numbers kept) places.old }
+    ensures { places.new ≡ put_first (length places.old / 24 * 24) (key.now ++ answer_numbers kept) places.old }
 {
     let all = places.len() / PLACE * PLACE;
     places.copy_within(..all - PLACE, PLACE);
@@ -115,27 +117,27 @@ fn put_first(places: &mut [u64], key: &[u64; KEY], kept: Kept)
 }
 
 // What the newest place with this key keeps.
-fn newest(places: &[u64], key: &[u64; KEY]) -> Option<Kept>
-    ensures { result ≡ found_in (length places.now / 24) key.now places.now }
+fn newest(places: &[u64], key: &[u64; KEY]) -> Option<CachedAnswer>
+    ensures { result ≡ find_in (length places.now / 24) key.now places.now }
 {
     let (places, _) = places.as_chunks::<PLACE>();
     places.iter().find_map(|place| read_place(place, key))
 }
 
 // What a place keeps, if it has this key.
-fn read_place(place: &[u64; PLACE], key: &[u64; KEY]) -> Option<Kept>
-    ensures { result ≡ kept_in key.now place.now }
+fn read_place(place: &[u64; PLACE], key: &[u64; KEY]) -> Option<CachedAnswer>
+    ensures { result ≡ read_place key.now place.now }
 {
     if !place.starts_with(key) {
         return None;
     }
     let [.., kind, rows, amount] = *place;
-    Kept::try_from([kind, rows, amount]).ok()
+    CachedAnswer::try_from([kind, rows, amount]).ok()
 }
 
 // The query in five numbers: its kind, the key range, and for shared rows the two compartments.
-// A function and no `From`, since both types are of other crates. No kind is 0, so that an empty place has no query's key;
-// `request`, which is a crate above, numbers the kinds from 0.
+// A function and no `From`, since both types are of other crates. No kind is 0, so that an empty place has no query's
+// key; `request` numbers the kinds from 0.
 fn query_numbers(query: Query) -> [u64; QUERY]
     ensures { result ≡ query_numbers query }
 {
@@ -176,7 +178,7 @@ mod tests {
     #[test]
     fn finds_what_was_kept(rt: HostRuntime) {
         let mut places = [0; 192];
-        let total = Kept::Total {
+        let total = CachedAnswer::Total {
             rows: 2,
             amount: 70,
         };
@@ -193,28 +195,34 @@ mod tests {
     fn drops_the_oldest(rt: HostRuntime) {
         let mut places = [0; 50];
         places[48] = 7;
-        keep(&mut places, rows(1), &[], Kept::Rows);
-        keep(&mut places, shared(1, 0), &[], Kept::Shared);
-        assert_eq!(rt; look_up(&places, rows(1), &[]), Some(Kept::Rows));
-        keep(&mut places, shared(0, 1), &[], Kept::NotSeen);
+        keep(&mut places, rows(1), &[], CachedAnswer::Rows);
+        keep(&mut places, shared(1, 0), &[], CachedAnswer::Shared);
+        assert_eq!(rt; look_up(&places, rows(1), &[]), Some(CachedAnswer::Rows));
+        keep(&mut places, shared(0, 1), &[], CachedAnswer::NotSeen);
         assert_eq!(rt; look_up(&places, rows(1), &[]), None);
-        assert_eq!(rt; look_up(&places, shared(1, 0), &[]), Some(Kept::Shared));
-        assert_eq!(rt; look_up(&places, shared(0, 1), &[]), Some(Kept::NotSeen));
+        assert_eq!(rt;
+            look_up(&places, shared(1, 0), &[]),
+            Some(CachedAnswer::Shared)
+        );
+        assert_eq!(rt;
+            look_up(&places, shared(0, 1), &[]),
+            Some(CachedAnswer::NotSeen)
+        );
         assert!(rt; places[48] == 7 && places[49] == 0);
     }
 
     #[test]
     fn passes_over_damage(rt: HostRuntime) {
         let mut places = [0; 24];
-        keep(&mut places, rows(1), &[9], Kept::Rows);
+        keep(&mut places, rows(1), &[9], CachedAnswer::Rows);
         places[21] = 5;
         assert_eq!(rt; look_up(&places, rows(1), &[9]), None);
         places[21] = 1;
-        assert_eq!(rt; look_up(&places, rows(1), &[9]), Some(Kept::Rows));
+        assert_eq!(rt; look_up(&places, rows(1), &[9]), Some(CachedAnswer::Rows));
         places[22] = 1;
         assert_eq!(rt; look_up(&places, rows(1), &[9]), None);
         let mut short = [4; 23];
-        keep(&mut short, rows(1), &[9], Kept::Rows);
+        keep(&mut short, rows(1), &[9], CachedAnswer::Rows);
         assert!(rt; short == [4; 23]);
     }
 }

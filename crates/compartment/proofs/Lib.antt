@@ -1,2 +1,2 @@
--- Lemmas on a compartment's part of memory.
+-- From a part of memory to rows.
 pub mod Held

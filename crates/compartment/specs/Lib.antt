@@ -1,4 +1,5 @@
 -- What the contracts of this crate cite.
-pub mod Parts
+pub mod ChangeResult
 pub mod Changes
+pub mod Parts
 pub mod Holding

@@ -1,9 +1,15 @@
--- What each call tells of a compartment's part of memory and makes of it, for every content: the version, the number of rows, the rows.
-use Rattle.std.specs.Prelude.{ℕ, ◌+◌, ◌-◌, ◌*◌, ◌/◌, ◌^◌, min, Bool, if◌then◌else◌, ◌&&◌, List, [], ◌++◌, length, take, drop, Some, None, Ok, Err, Option, Result, nat_le, nat_lt, slice_index, slice_set}
+-- What each call tells of a compartment's part of memory and makes of it, whatever it holds.
+use Rattle.std.specs.Prelude.{ℕ, ◌+◌, ◌-◌, ◌*◌, ◌/◌, ◌^◌, min, Bool, if◌then◌else◌, ◌&&◌, List, ◌++◌, length, take, drop, ok_or, Ok, Err, Result, nat_le, nat_lt, slice_index, slice_set}
+use Rattle.rows.specs.declared.KeyRange.{KeyRange}
 use Rattle.rows.specs.declared.Row.{Row}
-use Rattle.rows.specs.Numbers.{put_count, put_into, delete_count, delete_from}
+use Rattle.rows.specs.Numbers.{range_part}
+use Rattle.policy.specs.declared.place.Written.{Written}
 use Rattle.base.specs.declared.refusal.Refusal.{Refusal}
-use Rattle.base.specs.declared.refusal.Refusal.TheVariants.{OutOfBounds, NoRoom, NoRow, LastVersion}
+use Rattle.base.specs.declared.refusal.Refusal.TheVariants.{OutOfBounds, LastVersion}
+use Rattle.compartment.specs.declared.copying.Copying.{Copying}
+use Rattle.compartment.specs.declared.copying.Counts.{Counts}
+use Rattle.compartment.specs.ChangeResult.{ChangeResult, refused_change, change_unless_refused}
+use Rattle.compartment.specs.Changes.{RowsChange, put_change, delete_change, copy_change, no_change}
 
 -- every version is below it
 abbrev pub limit : ℕ
@@ -14,74 +20,71 @@ abbrev pub capacity : List ℕ → ℕ
 capacity part = (length part - 2) / 2
 
 -- the version is there and in bounds
-abbrev pub counted : List ℕ → Bool
-counted part = nat_le 2 (length part) && nat_lt (slice_index part 0) limit
+abbrev pub version_fits : List ℕ → Bool
+version_fits part = nat_le 2 (length part) && nat_lt (slice_index part 0) limit
 
 -- the number of rows is, too
-abbrev pub sound : List ℕ → Bool
-sound part = counted part && nat_le (slice_index part 1) (capacity part)
+abbrev pub in_bounds : List ℕ → Bool
+in_bounds part = version_fits part && nat_le (slice_index part 1) (capacity part)
 
 -- which of the two is at fault, by its place in memory; a part that begins at the last place of all has no second one
 abbrev pub fault : ℕ → List ℕ → Refusal
-fault start part = OutOfBounds (if counted part then min (start + 1) (2 ^ 64 - 1) else start)
+fault start part = OutOfBounds (if version_fits part then min (start + 1) (2 ^ 64 - 1) else start)
 
-abbrev pub checked : ℕ → List ℕ → Result ℕ Refusal
-checked start part = if sound part then Ok (slice_index part 1) else Err (fault start part)
+abbrev pub count_told : ℕ → List ℕ → Result ℕ Refusal
+count_told start part = if in_bounds part then Ok (slice_index part 1) else Err (fault start part)
 
--- the rows, where there are as many
-abbrev pub rows_part : ℕ → List ℕ → List ℕ
-rows_part count part = if nat_le (2 + 2 * count) (length part) then take (2 * count) (drop 2 part) else []
+-- a part with this version and this number of rows
+abbrev pub with_heading : ℕ → ℕ → List ℕ → List ℕ
+with_heading version count part = slice_set (slice_set part 0 version) 1 count
 
--- one more change, unless the version is as high as it may be
-abbrev pub changing : ℕ → List ℕ → Result (Unit {0}) Refusal
-changing compartment part = if nat_lt (slice_index part 0 + 1) limit then Ok tt else Err (LastVersion compartment)
+-- other rows, one version on, unless the version is as high as it may be
+abbrev pub next_version : ℕ → List ℕ → List ℕ → ℕ → ChangeResult
+next_version compartment part changed count =
+    if nat_lt (slice_index part 0 + 1) limit
+    then record { told = Ok tt; memory = with_heading (slice_index part 0 + 1) count changed }
+    else refused_change part (LastVersion compartment)
 
--- the version is raised by one, and the number of rows set
-abbrev pub raised : ℕ → ℕ → List ℕ → List ℕ
-raised version count part = slice_set (slice_set part 0 (version + 1)) 1 count
+-- the first rows of a part are changed: where both refuse, the rows do
+abbrev pub change_rows : ℕ → RowsChange → ℕ → List ℕ → ChangeResult
+change_rows compartment change count part =
+    change_unless_refused part (ok_or (change.count count (drop 2 part)) (change.refusal (capacity part)))
+    (λ new. next_version compartment part (take 2 part ++ change.rows count (drop 2 part)) new)
 
--- what is told where rows change to a number of them, or where they can't
-abbrev pub told_by : ℕ → Refusal → List ℕ → Option ℕ → Result (Unit {0}) Refusal
-told_by compartment refusal part None = Err refusal
-told_by compartment refusal part (Some count) = changing compartment part
+-- any change of a part by itself
+abbrev pub change_part : Written → RowsChange → List ℕ → ChangeResult
+change_part w change part =
+    change_unless_refused part (count_told w.place.start part) (λ count. change_rows w.compartment change count part)
 
--- and the part afterwards, from the one with the changed rows
-abbrev pub after_by : List ℕ → List ℕ → Option ℕ → List ℕ
-after_by changed part None = part
-after_by changed part (Some count) =
-    if nat_lt (slice_index part 0 + 1) limit then raised (slice_index part 0) count changed else part
+abbrev pub write_part : Written → Row → List ℕ → ChangeResult
+write_part w row part = change_part w (put_change row) part
 
--- what any change tells, by the refusal at a capacity and the number of rows after it, and the part afterwards
-abbrev pub change_told : ℕ → ℕ → (ℕ → Refusal) → (ℕ → List ℕ → Option ℕ) → List ℕ → Result (Unit {0}) Refusal
-change_told start compartment refusal count part =
-    if sound part then told_by compartment (refusal (capacity part)) part (count (slice_index part 1) (drop 2 part))
-    else Err (fault start part)
+abbrev pub delete_part : Written → ℕ → List ℕ → ChangeResult
+delete_part w key part = change_part w (delete_change key) part
 
-abbrev pub change_after : (ℕ → List ℕ → Option ℕ) → (ℕ → List ℕ → List ℕ) → List ℕ → List ℕ
-change_after count rows part =
-    if sound part
-    then after_by (take 2 part ++ rows (slice_index part 1) (drop 2 part)) part (count (slice_index part 1) (drop 2 part))
-    else part
+-- one version on, and no row of it
+abbrev pub raise_part : Written → List ℕ → ChangeResult
+raise_part w part = change_part w no_change part
 
-abbrev pub write_told : ℕ → ℕ → Row → List ℕ → Result (Unit {0}) Refusal
-write_told start compartment row part = change_told start compartment (λ capacity. NoRoom capacity) (λ count rows. put_count count row rows) part
+-- the numbers of rows of two parts, or the refusal of the one that lies first
+abbrev pub both_counts : Bool → Result ℕ Refusal → Result ℕ Refusal → Result Counts Refusal
+both_counts source_first (Ok m) (Ok n) = Ok (record { source = m; destination = n })
+both_counts source_first (Err e) (Ok n) = Err e
+both_counts source_first (Ok m) (Err e) = Err e
+both_counts source_first (Err e) (Err f) = Err (if source_first then e else f)
 
-abbrev pub write_after : Row → List ℕ → List ℕ
-write_after row part = change_after (λ count rows. put_count count row rows) (λ count rows. put_into count row rows) part
+abbrev pub counts_of : Copying → List ℕ → List ℕ → Result Counts Refusal
+counts_of c source part =
+    both_counts (nat_lt c.from.start c.written.place.start)
+    (count_told c.from.start source) (count_told c.written.place.start part)
 
-abbrev pub delete_told : ℕ → ℕ → ℕ → List ℕ → Result (Unit {0}) Refusal
-delete_told start compartment key part = change_told start compartment (λ capacity. NoRow key) (λ count rows. delete_count count key rows) part
+-- the rows to copy
+abbrev pub rows_to_copy : KeyRange → ℕ → List ℕ → List ℕ
+rows_to_copy range count source = range_part range (take (2 * count) (drop 2 source))
 
-abbrev pub delete_after : ℕ → List ℕ → List ℕ
-delete_after key part = change_after (λ count rows. delete_count count key rows) (λ count rows. delete_from count key rows) part
-
--- a change to a number of rows, which are written later; it judges only whether there is room for them, and whether the version may rise
-abbrev pub raise_told : ℕ → ℕ → List ℕ → Result (Unit {0}) Refusal
-raise_told compartment count part =
-    if nat_le (2 + 2 * count) (length part) then changing compartment part else Err (NoRoom (capacity part))
-
-abbrev pub raise_after : ℕ → List ℕ → List ℕ
-raise_after count part =
-    if nat_le (2 + 2 * count) (length part) && nat_lt (slice_index part 0 + 1) limit
-    then raised (slice_index part 0) count part
-    else part
+-- rows of another part are copied into a part
+abbrev pub copy_part : Copying → List ℕ → List ℕ → ChangeResult
+copy_part c source part =
+    change_unless_refused part (counts_of c source part)
+    (λ counts. change_rows c.written.compartment
+    (copy_change (rows_to_copy c.range counts.source source) c.range) counts.destination part)

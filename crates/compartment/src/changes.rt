@@ -1,36 +1,29 @@
 // The changes that the rows of a compartment take.
-ghost use Rattle.std.specs.Prelude.{◌≡◌, ℕ, ◌*◌, ◌≤◌, List, Option, None, length, is_some};
-ghost use Rattle.rows.specs.Numbers.{put_count, put_into, delete_count, delete_from};
-ghost use Rattle.base.specs.declared.refusal.Refusal.{Refusal as RefusalOf};
-ghost use Rattle.base.specs.declared.refusal.Refusal.TheVariants.{NoRoom, NoRow};
-ghost use Rattle.compartment.specs.Changes.{put_refused, delete_refused};
+ghost use Rattle.std.specs.Prelude.{◌≡◌, ℕ, ◌*◌, ◌≤◌, List, length, is_some};
+ghost use Rattle.compartment.specs.Changes.{RowsChange, LeavesRows, put_change, delete_change, copy_change, no_change, put_refused, delete_refused, copy_refused, no_change_refused};
 
 use base::Refusal;
-use rows::Row;
+use rows::{KeyRange, Row};
 
 // A change of the first `count` of some rows, which may be refused.
 pub(crate) trait Change: Copy {
-    ghost count_after: { Self → ℕ → List ℕ → Option ℕ };
-
-    ghost rows_after: { Self → ℕ → List ℕ → List ℕ };
-
-    ghost refusal_told: { Self → ℕ → RefusalOf };
+    ghost effect: { Self → RowsChange };
 
     // Whether it isn't refused.
     fn fits(self, rows: &[u64], count: usize) -> bool
         requires { 2 * count ≤ length rows.now }
-        ensures { result ≡ is_some (count_after self count rows.now) };
+        ensures { result ≡ is_some ((effect self).count count rows.now) };
 
     // Makes it, and says how many rows there are then; a refused one changes nothing.
     fn make(self, rows: &mut [u64], count: usize) -> Option<usize>
-        ensures told { result ≡ count_after self count rows.old }
-        ensures after { rows.new ≡ rows_after self count rows.old };
+        ensures told { result ≡ (effect self).count count rows.old }
+        ensures after { rows.new ≡ (effect self).rows count rows.old };
 
-    // What a refusal tells, by the capacity. Each change names its own, since a default would stand for `NoRoom` where there is no row.
+    // What a refusal tells, by the capacity.
     fn refusal(self, capacity: usize) -> Refusal
-        ensures { result ≡ refusal_told self capacity };
+        ensures { result ≡ (effect self).refusal capacity };
 
-    ghost refused_leaves: { (change : Self) (count : ℕ) (rows : List ℕ) → count_after change count rows ≡ None → rows_after change count rows ≡ rows };
+    ghost refused_leaves: { (change : Self) (count : ℕ) (rows : List ℕ) → LeavesRows (effect change) count rows };
 }
 
 // A row comes in, in place of the one with its key.
@@ -38,13 +31,9 @@ pub(crate) trait Change: Copy {
 pub(crate) struct Put(pub(crate) Row);
 
 impl Change for Put {
-    ghost count_after = { λ put count rows. put_count count put.0 rows };
+    ghost effect = { λ put. put_change put.0 };
 
-    ghost rows_after = { λ put count rows. put_into count put.0 rows };
-
-    ghost refusal_told = { λ put capacity. NoRoom capacity };
-
-    ghost refused_leaves = { λ put count rows. put_refused count put.0 rows };
+    ghost refused_leaves = { λ put. put_refused put.0 };
 
     fn fits(self, rows: &[u64], count: usize) -> bool {
         count < rows.len() / 2 || rows::find(&rows[..2 * count], u64::from(self.0.key)).is_some()
@@ -64,13 +53,9 @@ impl Change for Put {
 pub(crate) struct Without(pub(crate) u32);
 
 impl Change for Without {
-    ghost count_after = { λ without count rows. delete_count count without.0 rows };
+    ghost effect = { λ without. delete_change without.0 };
 
-    ghost rows_after = { λ without count rows. delete_from count without.0 rows };
-
-    ghost refusal_told = { λ without capacity. NoRow without.0 };
-
-    ghost refused_leaves = { λ without count rows. delete_refused count without.0 rows };
+    ghost refused_leaves = { λ without. delete_refused without.0 };
 
     fn fits(self, rows: &[u64], count: usize) -> bool {
         rows::find(&rows[..2 * count], u64::from(self.0)).is_some()
@@ -82,5 +67,52 @@ impl Change for Without {
 
     fn refusal(self, _capacity: usize) -> Refusal {
         Refusal::NoRow { key: self.0 }
+    }
+}
+
+// Rows whose keys lie in a range come in, each in place of the one with its key.
+#[derive(Clone, Copy)]
+pub(crate) struct CopyOf<'a> {
+    pub(crate) rows: &'a [u64],
+    pub(crate) range: KeyRange,
+}
+
+impl Change for CopyOf<'_> {
+    ghost effect = { λ copy. copy_change copy.rows.now copy.range };
+
+    ghost refused_leaves = { λ copy. copy_refused copy.rows.now copy.range };
+
+    fn fits(self, rows: &[u64], count: usize) -> bool {
+        merge::count_after(self.rows, self.range, &rows[..2 * count]) <= rows.len() / 2
+    }
+
+    fn make(self, rows: &mut [u64], count: usize) -> Option<usize> {
+        merge::copy_rows(self.rows, self.range, rows, count)
+    }
+
+    fn refusal(self, capacity: usize) -> Refusal {
+        Refusal::NoRoom { capacity }
+    }
+}
+
+// Rows stay as they are, and only the version rises.
+#[derive(Clone, Copy)]
+pub(crate) struct SameRows;
+
+impl Change for SameRows {
+    ghost effect = { λ same. no_change };
+
+    ghost refused_leaves = { λ same. no_change_refused };
+
+    fn fits(self, _rows: &[u64], _count: usize) -> bool {
+        true
+    }
+
+    fn make(self, _rows: &mut [u64], count: usize) -> Option<usize> {
+        Some(count)
+    }
+
+    fn refusal(self, capacity: usize) -> Refusal {
+        Refusal::NoRoom { capacity }
     }
 }

@@ -1,28 +1,38 @@
 // What the calls mean on a part that holds a version and rows: each function carries theorems, and does nothing else.
-ghost use Rattle.compartment.specs.Holding.{EmptyHolds, CheckCounts, RowsAreFlat, WriteTells, WriteHolds, WriteRefused, DeleteTells, DeleteHolds, DeleteRefused, RaiseTells, RaiseLeaves, RaiseHolds, RaiseRefused, RefilledHolds};
+ghost use Rattle.compartment.specs.Holding.{EmptyHolds, CheckCounts, RefusedChangeLeaves, WriteTells, WriteHolds, DeleteTells, DeleteHolds, CopyTells, CopyHolds, RefusedCopyLeaves, RaiseTells, RaiseHolds};
 
+/// Zeros hold no rows, and a part that holds rows is in bounds.
 pub fn holds_stands()
     ensures empty { EmptyHolds }
     ensures counts { CheckCounts }
-    ensures rows { RowsAreFlat }
 {}
 
+/// Refusals leave the part.
+pub fn refusal_stands()
+    ensures change { RefusedChangeLeaves }
+    ensures copy { RefusedCopyLeaves }
+{}
+
+/// A write is a put.
 pub fn write_stands()
     ensures tells { WriteTells }
     ensures holds { WriteHolds }
-    ensures refused { WriteRefused }
 {}
 
+/// A delete takes one row away.
 pub fn delete_stands()
     ensures tells { DeleteTells }
     ensures holds { DeleteHolds }
-    ensures refused { DeleteRefused }
 {}
 
+/// A copy is put after put.
+pub fn copy_stands()
+    ensures tells { CopyTells }
+    ensures holds { CopyHolds }
+{}
+
+/// A raise changes no row.
 pub fn raise_stands()
     ensures tells { RaiseTells }
-    ensures leaves { RaiseLeaves }
     ensures holds { RaiseHolds }
-    ensures refused { RaiseRefused }
-    ensures refilled { RefilledHolds }
 {}

@@ -6,3 +6,4 @@ pub mod Resting
 pub mod Staying
 pub mod Lengths
 pub mod Listed
+pub mod Faults

@@ -1,4 +1,4 @@
--- Versions and parts that come into a list one by one.
+-- Versions and parts that are put into a list one after the other.
 use Rattle.std.proofs.Common.{◌≡◌, ℕ, ◌+◌, ◌<◌, ◌≤◌, List, [], ◌∷◌, ◌++◌, length, map, take, get_or, sym, ap, ◌∙◌, arith}
 use Rattle.std.proofs.lemmas.List.{map_more, map-append, take-map, length-map, length-take-le, take_all}
 

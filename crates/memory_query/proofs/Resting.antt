@@ -1,34 +1,35 @@
 -- Nothing but what the user sees, and their cache, shows in what they are told.
-use Rattle.std.proofs.Common.{◌≡◌, ℕ, Bool, true, cond, ltb, List, [], ◌∷◌, length, get_or, Some, None, Err, Option, Result, sym, refl, ap, ◌∙◌, subst, inl, inr}
+use Rattle.std.proofs.Common.{◌≡◌, ℕ, Bool, true, cond, List, [], ◌∷◌, length, get_or, Some, None, Ok, Err, Option, Result, sym, refl, ap, ◌∙◌, subst, inl, inr}
+use Rattle.std.specs.Option.{ok_or}
 use Rattle.std.proofs.lemmas.List.{get_or-take}
 use Rattle.std.proofs.lemmas.Bool.{cases_lt, lt-ltb, le-ltb}
+use Rattle.std.proofs.lemmas.Option.{none-some, same_Some}
 use Rattle.policy.specs.declared.contract.Contract.{Contract}
 use Rattle.policy.specs.declared.Policy.{Policy}
 use Rattle.base.specs.declared.refusal.Refusal.{Refusal}
-use Rattle.base.specs.declared.refusal.Refusal.TheVariants.{OutOfBounds, ShortRow}
-use Rattle.policy.specs.Access.{rules_of, contract_at, cache_at, memory_length}
-use Rattle.policy.specs.Rules.{has, sees}
+use Rattle.base.specs.declared.refusal.Refusal.TheVariants.{NoUser}
+use Rattle.policy.specs.Access.{rules_of, contract_at, cache_at, length_told}
+use Rattle.policy.specs.Rules.{has}
 use Rattle.policy.specs.Views.{view_of, nobody}
 use Rattle.query.specs.declared.Outcome.{Outcome}
-use Rattle.query.specs.declared.Query.{Query}
-use Rattle.query.specs.Looks.{looked_at, needed_for}
-use Rattle.query.specs.Numbers.{outcome, row_after}
+use Rattle.query.specs.Looks.{compartments_for}
 use Rattle.query.proofs.Views.{has_head, has_tail}
 use Rattle.query.proofs.Seen.{same_map}
 use Rattle.query.proofs.Written.{lent_is_seen}
-use Rattle.cache.specs.declared.Kept.{Kept}
-use Rattle.cache.specs.Places.{look_up}
-use Rattle.memory_query.specs.Places.{version_at, part_at, fault_at, lower, damaged}
-use Rattle.memory_query.specs.Asked.{versions_in, parts_in, cache_part, recalled, recalled_row, worked_out, worked_row, told_by, row_by, found, refusal_by, refusal_of, unless, checked_by, checked}
-use Rattle.memory_query.specs.Alike.{Alike, RestDoesNotShow}
-use Rattle.std.proofs.lemmas.Option.{none-some, same_Some}
-use Rattle.std.specs.Option.{ok_or}
+use Rattle.cache.specs.declared.CachedAnswer.{CachedAnswer}
+use Rattle.cache.specs.declared.CachedAnswer.TheVariants.{Rows, Total, Shared, NotSeen}
+use Rattle.cache.specs.CachePlaces.{look_up}
+use Rattle.memory_query.specs.CallResult.{CallResult, unless_refused}
+use Rattle.memory_query.specs.MemoryParts.{version_at, part_at, fault_at, lower, lowest_fault, versions_in, parts_in, cache_part}
+use Rattle.memory_query.specs.AskResult.{Inquiry, row_length_by, check_told, cached_told, work_result, cache_result, inquiry_result}
+use Rattle.memory_query.specs.Alike.{ToldAlike, RestDoesNotShow}
 
-same_damaged : (p : Policy) (memory other cs : List ℕ) → ((c : ℕ) → has cs c ≡ true → fault_at p memory c ≡ fault_at p other c) → damaged p memory cs ≡ damaged p other cs
-same_damaged p memory other [] h = refl
-same_damaged p memory other (c ∷ cs) h =
-    ap (λ (o : Option ℕ). lower o (damaged p memory cs)) (h c (has_head c cs))
-    ∙ ap (λ (o : Option ℕ). lower (fault_at p other c) o) (same_damaged p memory other cs (λ d k. h d (has_tail c d cs k)))
+same_faults : (p : Policy) (memory other cs : List ℕ) → ((c : ℕ) → has cs c ≡ true → fault_at p memory c ≡ fault_at p other c) →
+    lowest_fault p memory cs ≡ lowest_fault p other cs
+same_faults p memory other [] h = refl
+same_faults p memory other (c ∷ cs) h =
+    ap (λ (o : Option ℕ). lower o (lowest_fault p memory cs)) (h c (has_head c cs))
+    ∙ ap (λ (o : Option ℕ). lower (fault_at p other c) o) (same_faults p memory other cs (λ d k. h d (has_tail c d cs k)))
 
 -- a contract has the view of the rules
 view_is : (p : Policy) (user : ℕ) (k : Contract) → contract_at p user ≡ Some k → view_of k ≡ (rules_of p).view user
@@ -39,66 +40,48 @@ view_is p user k e = elim (cases_lt user p.users) [
   | inr h ↦ absurd (none-some k (sym (ap (λ (b : Bool). cond b (Some (get_or p.contracts user nobody)) None) (le-ltb user p.users h)) ∙ e))
 ]
 
-module _ (p : Policy) (user : ℕ) (query : Query) (memory other row : List ℕ) (h : Alike p user memory other) where
-  -- the same checks over both, to answers that are the same for the user's view and cache
-  module _ {X : Type 0} (stop : Refusal → X) (give hand : List ℕ → ℕ → X)
-      (same : (k : Contract) (a : ℕ) → contract_at p user ≡ Some k → cache_at p user ≡ Some a → give (view_of k) a ≡ hand (view_of k) a) where
-    same_by : (k : Option Contract) (a : Option ℕ) → contract_at p user ≡ k → cache_at p user ≡ a →
-        checked_by stop give p memory (length row) user query k a ≡ checked_by stop hand p other (length row) user query k a
-    same_by None a e f = refl
-    same_by (Some k) None e f = refl
-    same_by (Some k) (Some a) e f =
-        let v = view_of k in
-        let b = λ (c : ℕ) (s : has v c ≡ true). h.bounds c (subst (λ (w : List ℕ). has w c ≡ true) (view_is p user k e) s) in
-        ap (λ (o : Option ℕ). unless stop (give v a) (refusal_by (length row) (needed_for (rules_of p).capacity v query) o)) (same_damaged p memory other v b)
-        ∙ ap (λ (x : X). unless stop x (refusal_of p other (length row) v query)) (same k a e f)
+-- after the same check over both memories, what goes on alike is told alike
+alike_unless : {A : Type 0} (memory other row : List ℕ) (check same : Result A Refusal) (next goes : A → CallResult Outcome) → check ≡ same →
+    ((x : A) → same ≡ Ok x → ToldAlike (next x) (goes x)) → ToldAlike (unless_refused memory row check next) (unless_refused other row same goes)
+alike_unless memory other row check (Ok x) next goes e h = rw e (h x refl)
+alike_unless memory other row check (Err refusal) next goes e h = rw e (record { told = refl; row = refl })
 
-    same_checked : checked stop give p memory (length row) user query ≡ checked stop hand p other (length row) user query
-    same_checked =
-        ap (λ (x : X). cond (ltb (length memory) (memory_length p)) (stop (OutOfBounds (length memory))) x) (same_by (contract_at p user) (cache_at p user) refl refl)
-        ∙ ap (λ (n : ℕ). cond (ltb n (memory_length p)) (stop (OutOfBounds n)) (checked_by stop hand p other (length row) user query (contract_at p user) (cache_at p user))) h.long
+-- what a check hands on was there
+found : {X : Type 0} (o : Option X) (x : X) (r : Refusal) → ok_or o r ≡ Ok x → o ≡ Some x
+found (Some y) x r e = cc
+found None x r e = absurd cc
 
-  module _ (k : Contract) (a : ℕ) (e : contract_at p user ≡ Some k) (f : cache_at p user ≡ Some a) where
-    abbrev v : List ℕ
-    v = view_of k
+module _ (p : Policy) (memory other row : List ℕ) (i : Inquiry) (parts : parts_in p memory i.compartments ≡ parts_in p other i.compartments) where
+  work_alike : ToldAlike (work_result p memory row i) (work_result p other row i)
+  work_alike = record { told = rw parts refl; row = rw parts refl }
 
-    seen : (c : ℕ) → has v c ≡ true → sees (rules_of p) user c ≡ true
-    seen c s = subst (λ (w : List ℕ). has w c ≡ true) (view_is p user k e) s
+  cache_alike : (kept : Option CachedAnswer) →
+      ToldAlike (cache_result i row (work_result p memory row i) kept) (cache_result i row (work_result p other row i) kept)
+  cache_alike (Some Rows) = record { told = ap cached_told work_alike.told; row = work_alike.row }
+  cache_alike (Some (Total rows amount)) = record { told = refl; row = refl }
+  cache_alike (Some Shared) = record { told = ap cached_told work_alike.told; row = work_alike.row }
+  cache_alike (Some NotSeen) = record { told = refl; row = refl }
+  cache_alike None = record { told = work_alike.told; row = work_alike.row }
 
-    found_same : found p memory v a query ≡ found p other v a query
-    found_same =
-        ap (λ (ws : List ℕ). look_up query ws (cache_part a memory)) (same_map v (version_at p memory) (version_at p other) (λ c s. h.version c (seen c s)))
-        ∙ ap (λ (ps : List ℕ). look_up query (versions_in p other v) ps) (h.cache a f)
-
-    parts_same : parts_in p memory (looked_at v query) ≡ parts_in p other (looked_at v query)
-    parts_same = same_map (looked_at v query) (part_at p memory) (part_at p other) (λ c s. h.rows c (seen c (lent_is_seen v query c s)))
-
-    worked_same : worked_out p memory v query (length row) ≡ worked_out p other v query (length row)
-    worked_same = ap (λ (ps : List (List ℕ)). ok_or (outcome query ps (length row)) (ShortRow (length row))) parts_same
-
-    row_same : worked_row p memory v query row ≡ worked_row p other v query row
-    row_same = ap (λ (ps : List (List ℕ)). row_after query ps row) parts_same
-
-    told_same : (o : Option Kept) → told_by p memory v query (length row) o ≡ told_by p other v query (length row) o
-    told_same (Some k) = ap (λ (x : Result Outcome Refusal). recalled k x) worked_same
-    told_same None = worked_same
-
-    rows_same : (o : Option Kept) → row_by p memory v query row o ≡ row_by p other v query row o
-    rows_same (Some k) = ap (λ (x : List ℕ). recalled_row k x row) row_same
-    rows_same None = row_same
+-- the same query over both, where its user's cache is the same
+inquiry_alike : (p : Policy) (memory other row : List ℕ) (i j : Inquiry) → i ≡ j → cache_part j.at memory ≡ cache_part j.at other →
+    parts_in p memory j.compartments ≡ parts_in p other j.compartments → ToldAlike (inquiry_result p memory row i) (inquiry_result p other row j)
+inquiry_alike p memory other row i j e f g =
+    rw (e, f) (cache_alike p memory other row j g (look_up j.query j.versions (cache_part j.at other)))
 
 pub rest_does_not_show : RestDoesNotShow
-rest_does_not_show p user query memory other row h = (
-  same_checked p user query memory other row h (λ (q : Refusal). Err q)
-      (λ (v : List ℕ) (a : ℕ). told_by p memory v query (length row) (found p memory v a query))
-      (λ (v : List ℕ) (a : ℕ). told_by p other v query (length row) (found p other v a query))
-      (λ k a e f.
-      told_same p user query memory other row h k a e f (found p memory (view_of k) a query)
-      ∙ ap (λ (o : Option Kept). told_by p other (view_of k) query (length row) o) (found_same p user query memory other row h k a e f)),
-  same_checked p user query memory other row h (λ (q : Refusal). row)
-      (λ (v : List ℕ) (a : ℕ). row_by p memory v query row (found p memory v a query))
-      (λ (v : List ℕ) (a : ℕ). row_by p other v query row (found p other v a query))
-      (λ k a e f.
-      rows_same p user query memory other row h k a e f (found p memory (view_of k) a query)
-      ∙ ap (λ (o : Option Kept). row_by p other (view_of k) query row o) (found_same p user query memory other row h k a e f)),
-)
+rest_does_not_show p user query memory other row h =
+    alike_unless memory other row (length_told p memory) (length_told p other) _ _ (rw h.long refl) (λ x e.
+    alike_unless memory other row (ok_or (contract_at p user) (NoUser user)) (ok_or (contract_at p user) (NoUser user)) _ _ refl (λ contract there.
+    alike_unless memory other row (ok_or (cache_at p user) (NoUser user)) (ok_or (cache_at p user) (NoUser user)) _ _ refl (λ at cached.
+    let v = view_of contract in
+    let seen = λ (c : ℕ) (s : has v c ≡ true). subst (λ (w : List ℕ). has w c ≡ true) (view_is p user contract (found (contract_at p user) contract (NoUser user) there)) s in
+    let faults : lowest_fault p memory v ≡ lowest_fault p other v = same_faults p memory other v (λ c s. h.bounds c (seen c s)) in
+    let versions : versions_in p memory v ≡ versions_in p other v = same_map v (version_at p memory) (version_at p other) (λ c s. h.version c (seen c s)) in
+    alike_unless memory other row
+    (check_told (length row) (row_length_by p contract query) (lowest_fault p memory v))
+    (check_told (length row) (row_length_by p contract query) (lowest_fault p other v)) _ _ (rw faults refl) (λ y f.
+    inquiry_alike p memory other row _ _
+    (ap (λ (ws : List ℕ). record { query = query; compartments = compartments_for v query; versions = ws; at = at }) versions)
+    (h.cache at (found (cache_at p user) at (NoUser user) cached))
+    (same_map (compartments_for v query) (part_at p memory) (part_at p other) (λ c s. h.rows c (seen c (lent_is_seen v query c s))))))))

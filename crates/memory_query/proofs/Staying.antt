@@ -1,24 +1,27 @@
--- A query changes no compartment: the caches lie behind them.
+-- A query changes no compartment: the caches follow them in memory.
 use Rattle.std.proofs.Common.{◌≡◌, ℕ, ◌+◌, ◌*◌, ◌^◌, ◌<◌, ◌≤◌, min, Bool, cond, ltb, leb, List, ◌++◌, length, get_or, take, drop, Some, None, Ok, Err, Option, Result, sym, refl, ap, ◌∙◌, subst, inl, inr, arith}
 use Rattle.std.proofs.lemmas.List.{take-append-drop, take-append-le, drop-append-le, get_or_append_left, length-take-le, length-drop}
 use Rattle.std.proofs.lemmas.Bool.{cases_lt, lt-ltb, le-ltb}
-use Rattle.policy.specs.declared.contract.Contract.{Contract}
 use Rattle.policy.specs.declared.place.Place.{Place}
 use Rattle.policy.specs.declared.Policy.{Policy}
 use Rattle.base.specs.declared.refusal.Refusal.{Refusal}
+use Rattle.base.specs.declared.refusal.Refusal.TheVariants.{NoUser}
 use Rattle.policy.specs.Access.{capacities_of, contract_at, cache_at, memory_length}
 use Rattle.policy.specs.Layout.{end_from, starts_from}
 use Rattle.policy.specs.Views.{view_of}
 use Rattle.policy.proofs.Proved.{compartments_apart}
 use Rattle.query.specs.declared.Outcome.{Outcome}
-use Rattle.query.specs.declared.Query.{Query}
-use Rattle.cache.specs.declared.Kept.{Kept}
-use Rattle.memory_query.specs.Places.{version_in, part_in, fault_in}
-use Rattle.memory_query.specs.Asked.{versions_in, with_cache, kept_by, worked_out, memory_by, found, refusal_of, unless, checked_by}
-use Rattle.memory_query.specs.Stay.{SameThere, CompartmentsStay}
+use Rattle.cache.specs.declared.CachedAnswer.{CachedAnswer}
+use Rattle.cache.specs.declared.CachedAnswer.TheVariants.{Rows, Total, Shared, NotSeen}
+use Rattle.cache.specs.CachePlaces.{look_up}
+use Rattle.memory_query.specs.CallResult.{CallResult, unless_refused}
+use Rattle.memory_query.specs.MemoryParts.{version_in, part_in, fault_in, lowest_fault, cache_part, with_cache}
+use Rattle.memory_query.specs.AskResult.{Inquiry, row_length_by, check_told, work_result, memory_with, cache_result, inquiry_result}
+use Rattle.std.specs.Option.{ok_or}
+use Rattle.memory_query.specs.Stay.{SameCompartment, CompartmentsStay}
 use Rattle.std.proofs.lemmas.Option.{none-some, same_Some}
 
--- the front of a list is the same whatever stands behind it
+-- the front of a list is the same whatever follows
 front : (xs ys : List ℕ) (n j : ℕ) → j + n ≤ length xs → take n (drop j (xs ++ ys)) ≡ take n (drop j xs)
 front xs ys n j h =
     ap (λ (zs : List ℕ). take n zs) (drop-append-le j xs ys (omega arith)) ∙ take-append-le n (drop j xs) ys (let l = length-drop j xs in omega arith)
@@ -45,11 +48,11 @@ module _ (xs ys zs : List ℕ) where
             ∙ ap (λ (k : ℕ). cond (leb (2 ^ 40) (get_or (xs ++ zs) s 0)) (Some s) (cond (ltb place.capacity k) (Some (s + 1)) None)) n,
       )
 
-same_refl : (p : Policy) (c : ℕ) (memory : List ℕ) → SameThere p c memory memory
+same_refl : (p : Policy) (c : ℕ) (memory : List ℕ) → SameCompartment p c memory memory
 same_refl p c memory = record { rows = refl; version = refl; bounds = refl }
 
--- what stands before the caches
-before : (p : Policy) (c : ℕ) (xs ys zs : List ℕ) → end_from 0 (capacities_of p) ≤ length xs → SameThere p c (xs ++ ys) (xs ++ zs)
+-- what precedes the caches
+before : (p : Policy) (c : ℕ) (xs ys zs : List ℕ) → end_from 0 (capacities_of p) ≤ length xs → SameCompartment p c (xs ++ ys) (xs ++ zs)
 before p c xs ys zs h = elim (cases_lt c p.compartments) [
   | inl l ↦
       let a = (compartments_apart p c l).0 in
@@ -68,38 +71,49 @@ cache_behind p user at e = elim (cases_lt user p.users) [
   | inr h ↦ absurd (none-some at (sym (ap (λ (b : Bool). cond b (Some (end_from 0 (capacities_of p) + 192 * user)) None) (le-ltb user p.users h)) ∙ e))
 ]
 
-module _ (p : Policy) (c long user : ℕ) (query : Query) (memory : List ℕ) (l : memory_length p ≤ length memory) where
-  abbrev Stays : List ℕ → Type 0
-  Stays m = SameThere p c m memory
+module _ (p : Policy) (c : ℕ) (memory row : List ℕ) (l : memory_length p ≤ length memory) where
+  abbrev Stays : CallResult Outcome → Type 0
+  Stays call = SameCompartment p c call.memory memory
 
-  other_cache : (at : ℕ) (cache : List ℕ) → cache_at p user ≡ Some at → Stays (with_cache at cache memory)
-  other_cache at cache e =
+  other_cache : (user at : ℕ) (cache : List ℕ) → cache_at p user ≡ Some at → SameCompartment p c (with_cache at cache memory) memory
+  other_cache user at cache e =
       let b = cache_behind p user at e in
       let n = length-take-le at memory (omega arith) in
-      subst (λ (m : List ℕ). SameThere p c (with_cache at cache memory) m) (take-append-drop at memory)
+      subst (λ (m : List ℕ). SameCompartment p c (with_cache at cache memory) m) (take-append-drop at memory)
       (before p c (take at memory) (cache ++ drop 192 (drop at memory)) (drop at memory) (omega arith))
 
-  stays_kept : (at : ℕ) (versions : List ℕ) (x : Result Outcome Refusal) → cache_at p user ≡ Some at → Stays (kept_by at query versions memory x)
-  stays_kept at versions (Ok told) e = other_cache at _ e
-  stays_kept at versions (Err r) e = same_refl p c memory
+  stays_kept : (user : ℕ) (i : Inquiry) (x : Result Outcome Refusal) → cache_at p user ≡ Some i.at → SameCompartment p c (memory_with i memory x) memory
+  stays_kept user i (Ok outcome) e = other_cache user i.at _ e
+  stays_kept user i (Err r) e = same_refl p c memory
 
-  stays_found : (view : List ℕ) (at : ℕ) (o : Option Kept) → cache_at p user ≡ Some at → Stays (memory_by p memory view (versions_in p memory view) at query long o)
-  stays_found view at (Some k) e = same_refl p c memory
-  stays_found view at None e = stays_kept at (versions_in p memory view) (worked_out p memory view query long) e
+  stays_found : (user : ℕ) (i : Inquiry) (found : Option CachedAnswer) → cache_at p user ≡ Some i.at →
+      Stays (cache_result i row (work_result p memory row i) found)
+  stays_found user i (Some Rows) e = same_refl p c memory
+  stays_found user i (Some (Total rows amount)) e = same_refl p c memory
+  stays_found user i (Some Shared) e = same_refl p c memory
+  stays_found user i (Some NotSeen) e = same_refl p c memory
+  stays_found user i None e = stays_kept user i (work_result p memory row i).told e
 
-  stays_unless : (m : List ℕ) (o : Option Refusal) → Stays m → Stays (unless (λ (r : Refusal). memory) m o)
-  stays_unless m None h = h
-  stays_unless m (Some r) h = same_refl p c memory
+  stays_inquiry : (user : ℕ) (i : Inquiry) → cache_at p user ≡ Some i.at → Stays (inquiry_result p memory row i)
+  stays_inquiry user i = stays_found user i (look_up i.query i.versions (cache_part i.at memory))
 
-  stays_by : (k : Option Contract) (a : Option ℕ) → cache_at p user ≡ a →
-      Stays (checked_by (λ (r : Refusal). memory) (λ (v : List ℕ) (at : ℕ). memory_by p memory v (versions_in p memory v) at query long (found p memory v at query)) p memory long user query k a)
-  stays_by None a e = same_refl p c memory
-  stays_by (Some k) None e = same_refl p c memory
-  stays_by (Some k) (Some at) e =
-      stays_unless _ (refusal_of p memory long (view_of k) query) (stays_found (view_of k) at (found p memory (view_of k) at query) e)
+  stays_unless : {A : Type 0} (check : Result A Refusal) (next : A → CallResult Outcome) → ((x : A) → check ≡ Ok x → Stays (next x)) →
+      Stays (unless_refused memory row check next)
+  stays_unless (Ok x) next h = h x refl
+  stays_unless (Err r) next h = same_refl p c memory
+
+-- what a check hands on was there
+there : (o : Option ℕ) (at : ℕ) (r : Refusal) → ok_or o r ≡ Ok at → o ≡ Some at
+there (Some a) at r e = cc
+there None at r e = absurd cc
 
 pub compartments_stay : CompartmentsStay
-compartments_stay p c long user query memory = elim (cases_lt (length memory) (memory_length p)) [
+compartments_stay p c user query memory row = elim (cases_lt (length memory) (memory_length p)) [
   | inl h ↦ rw (lt-ltb (length memory) (memory_length p) h) (same_refl p c memory)
-  | inr h ↦ rw (le-ltb (length memory) (memory_length p) h) (stays_by p c long user query memory h (contract_at p user) (cache_at p user) refl)
+  | inr h ↦
+      rw (le-ltb (length memory) (memory_length p) h) (
+      stays_unless p c memory row h (ok_or (contract_at p user) (NoUser user)) _ (λ contract e.
+      stays_unless p c memory row h (ok_or (cache_at p user) (NoUser user)) _ (λ at e.
+      stays_unless p c memory row h (check_told (length row) (row_length_by p contract query) (lowest_fault p memory (view_of contract))) _ (λ x f.
+      stays_inquiry p c memory row h user _ (there (cache_at p user) at (NoUser user) e)))))
 ]

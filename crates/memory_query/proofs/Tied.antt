@@ -7,79 +7,74 @@ use Rattle.rows.specs.Halving.{flat}
 use Rattle.policy.specs.declared.contract.Contract.{Contract}
 use Rattle.policy.specs.declared.Policy.{Policy}
 use Rattle.base.specs.declared.refusal.Refusal.{Refusal}
-use Rattle.base.specs.declared.refusal.Refusal.TheVariants.{OutOfBounds, NoUser, ShortRow}
-use Rattle.policy.specs.Access.{rules_of, capacities_of, contract_at, cache_at, memory_length}
+use Rattle.base.specs.declared.refusal.Refusal.TheVariants.{NoUser, ShortRow}
+use Rattle.policy.specs.Access.{rules_of, capacities_of, cache_at, memory_length}
 use Rattle.policy.specs.Layout.{end_from}
 use Rattle.policy.specs.Rules.{Rules, has}
 use Rattle.policy.specs.Views.{view_of, nobody}
-use Rattle.query.specs.declared.Answered.{Answered}
-use Rattle.query.specs.declared.Answered.TheVariants.{Rows as InRows, Total as InTotal, Shared as InShared, NotSeen as InNone}
 use Rattle.query.specs.declared.Outcome.{Outcome}
 use Rattle.query.specs.declared.Query.{Query}
 use Rattle.query.specs.declared.Query.TheVariants.{Rows, Total, Shared}
-use Rattle.query.specs.Answers.{Answer, answer}
-use Rattle.query.specs.Laws.{parts_of, TellsWithRow as Right}
-use Rattle.query.specs.Looks.{looked_at, needed_for}
-use Rattle.query.specs.Numbers.{outcome, row_after, read_answer, with_answer}
+use Rattle.query.specs.Answers.{Answer, lists, total, list, not_seen, answer, cost}
+use Rattle.query.specs.Laws.{parts_of, IsModelAnswer}
+use Rattle.query.specs.Looks.{compartments_for, row_length_for}
+use Rattle.query.specs.AnswerRows.{answered_of, outcome_of, read_answer, with_answer}
 use Rattle.query.proofs.Views.{has_head, has_tail, view_few}
 use Rattle.query.proofs.Seen.{same_map}
-use Rattle.query.proofs.Written.{rows_hold_answers, lent_is_seen}
-use Rattle.cache.specs.declared.Kept.{Kept}
-use Rattle.cache.specs.declared.Kept.TheVariants.{Rows as kept_rows, Total as kept_total, Shared as kept_shared, NotSeen as kept_none}
-use Rattle.cache.specs.Kept.{kept_from}
-use Rattle.cache.specs.Entries.{Entry, held, OfView}
-use Rattle.cache.specs.Places.{look_up, keep_in}
+use Rattle.query.proofs.Written.{answers_as_model, lent_is_seen}
+use Rattle.cache.specs.declared.CachedAnswer.{CachedAnswer}
+use Rattle.cache.specs.declared.CachedAnswer.TheVariants.{Rows as kept_rows, Total as kept_total, Shared as kept_shared, NotSeen as kept_none}
+use Rattle.cache.specs.Entries.{Entry, padded_entries, OfView}
+use Rattle.cache.specs.CachePlaces.{cached_from, look_up, keep_in}
 use Rattle.cache.proofs.Stored.{look_up_flat, find_is_exact, keep_held}
 use Rattle.request.specs.declared.Request.TheVariants.{Query as Ask}
-use Rattle.model.specs.Model.{State, Response, refused, answered, response, step, lend, needed, capacities, keep, recall, answering, entry, versions_seen, look_up as found_among}
-use Rattle.memory_query.specs.Places.{version_at, part_at, fault_at, lower, damaged}
-use Rattle.memory_query.specs.Asked.{versions_in, parts_in, cache_part, with_cache, recalled, recalled_row, kept_by, worked_out, worked_row, told_by, memory_by, row_by, found, refusal_by, refusal_of, unless, checked_by, checked, asked_told, asked_memory, asked_row}
-use Rattle.memory_query.specs.Tie.{Holds, Tells, row_with, AsModelWithRow, QueriesAsModel, QueriesAsModelWithRow}
-use Rattle.std.specs.Option.{ok_or}
+use Rattle.model.specs.Model.{State, Response, refused, answered, response, step, lend, needed_length, capacity_sum, keep, recall, respond_query, entry, versions_seen, look_up as found_among}
+use Rattle.memory_query.specs.CallResult.{CallResult, refusal_result, unless_refused}
+use Rattle.memory_query.specs.MemoryParts.{version_at, part_at, fault_at, lower, lowest_fault, versions_in, parts_in, cache_part, with_cache}
+use Rattle.memory_query.specs.AskResult.{Inquiry, check_told, work_result, recall_result, cache_result, inquiry_result, ask_result}
+use Rattle.memory_query.specs.Tie.{HoldsView, result_of, row_with, read_result, AsModel, QueriesAsModel}
 
 -- BOUNDS AND LENGTHS
 
 lower_none : (a b : Option ℕ) → a ≡ None → b ≡ None → lower a b ≡ None
 lower_none a b e f = rw (e, f) refl
 
-pub none_damaged : (p : Policy) (memory cs : List ℕ) → ((c : ℕ) → has cs c ≡ true → fault_at p memory c ≡ None) → damaged p memory cs ≡ None
-none_damaged p memory [] h = refl
-none_damaged p memory (c ∷ cs) h =
-    lower_none (fault_at p memory c) (damaged p memory cs) (h c (has_head c cs)) (none_damaged p memory cs (λ d k. h d (has_tail c d cs k)))
+pub no_fault : (p : Policy) (memory cs : List ℕ) → ((c : ℕ) → has cs c ≡ true → fault_at p memory c ≡ None) → lowest_fault p memory cs ≡ None
+no_fault p memory [] h = refl
+no_fault p memory (c ∷ cs) h =
+    lower_none (fault_at p memory c) (lowest_fault p memory cs) (h c (has_head c cs)) (no_fault p memory cs (λ d k. h d (has_tail c d cs k)))
 
 -- with nothing out of bounds, a query is refused only for the length of its row
-abbrev by_length : ℕ → ℕ → Option Refusal
-by_length n long = cond (leb n long) None (Some (ShortRow long))
+abbrev by_length : ℕ → ℕ → Result (Unit {0}) Refusal
+by_length n long = cond (leb n long) (Ok tt) (Err (ShortRow long))
 
-length_alone : (n long : ℕ) → refusal_by long (Some n) None ≡ by_length n long
+length_alone : (n long : ℕ) → check_told long (Some n) None ≡ by_length n long
 length_alone n long = elim (cases_lt long n) [
   | inl h ↦ rw (lt-ltb long n h, lt-leb n long h) refl
   | inr h ↦ rw (le-ltb long n h, le-leb n long h) refl
 ]
 
-none_needed : (long : ℕ) → None ≡ by_length 0 long
+none_needed : (long : ℕ) → Ok tt ≡ by_length 0 long
 none_needed long = rw (le-leb 0 long (omega arith)) refl
 
-refusal_is : (r : Rules) (user : ℕ) (query : Query) (long : ℕ) →
-    refusal_by long (needed_for r.capacity (r.view user) query) None ≡ by_length (needed r user query) long
-refusal_is r user (Rows range) long =
-    length_alone (32 + 2 * capacities r.capacity (r.view user)) long
-refusal_is r user (Total range) long =
-    length_alone (32 + 2 * capacities r.capacity (r.view user)) long
-refusal_is r user (Shared a b range) long = elim (cases_Bool (has (r.view user) a && has (r.view user) b)) [
+check_is : (r : Rules) (user : ℕ) (query : Query) (long : ℕ) →
+    check_told long (row_length_for r.capacity (r.view user) query) None ≡ by_length (needed_length r user query) long
+check_is r user (Rows range) long = length_alone (32 + 2 * capacity_sum r.capacity (r.view user)) long
+check_is r user (Total range) long = length_alone (32 + 2 * capacity_sum r.capacity (r.view user)) long
+check_is r user (Shared a b range) long = elim (cases_Bool (has (r.view user) a && has (r.view user) b)) [
   | inl e ↦ rw e (length_alone (32 + 2 * r.capacity a) long)
   | inr e ↦ rw e (none_needed long)
 ]
 
-long_enough : (r : Rules) (user : ℕ) (query : Query) (long : ℕ) → leb (needed r user query) long ≡ true →
-    (n : ℕ) → needed_for r.capacity (r.view user) query ≡ Some n → n ≤ long
+long_enough : (r : Rules) (user : ℕ) (query : Query) (long : ℕ) → leb (needed_length r user query) long ≡ true →
+    (n : ℕ) → row_length_for r.capacity (r.view user) query ≡ Some n → n ≤ long
 long_enough r user (Rows range) long t n e =
-    let l : 32 + 2 * capacities r.capacity (r.view user) ≤ long = leb-true (32 + 2 * capacities r.capacity (r.view user)) long t in
-    let i = same_Some (32 + 2 * capacities r.capacity (r.view user)) n e in
+    let l : 32 + 2 * capacity_sum r.capacity (r.view user) ≤ long = leb-true (32 + 2 * capacity_sum r.capacity (r.view user)) long t in
+    let i = same_Some (32 + 2 * capacity_sum r.capacity (r.view user)) n e in
     omega arith
 long_enough r user (Total range) long t n e =
-    let l : 32 + 2 * capacities r.capacity (r.view user) ≤ long = leb-true (32 + 2 * capacities r.capacity (r.view user)) long t in
-    let i = same_Some (32 + 2 * capacities r.capacity (r.view user)) n e in
+    let l : 32 + 2 * capacity_sum r.capacity (r.view user) ≤ long = leb-true (32 + 2 * capacity_sum r.capacity (r.view user)) long t in
+    let i = same_Some (32 + 2 * capacity_sum r.capacity (r.view user)) n e in
     omega arith
 long_enough r user (Shared a b range) long t n e = elim (cases_Bool (has (r.view user) a && has (r.view user) b)) [
   | inl h ↦
@@ -91,29 +86,42 @@ long_enough r user (Shared a b range) long t n e = elim (cases_Bool (has (r.view
 
 -- THE CHECKS
 
-module _ {X : Type 0} (refuse : Refusal → X) (give : List ℕ → ℕ → X) (p : Policy) (memory : List ℕ) (long user : ℕ) (query : Query) (l : memory_length p ≤ length memory) where
-  -- of a contract and a cache, both there or not
-  abbrev at_hand : Bool → X
-  at_hand b =
-      checked_by refuse give p memory long user query (cond b (Some (get_or p.contracts user nobody)) None) (cond b (Some (end_from 0 (capacities_of p) + 192 * user)) None)
+module _ (p : Policy) (memory row : List ℕ) (user : ℕ) (query : Query) (l : memory_length p ≤ length memory) where
+  abbrev place : ℕ
+  place = end_from 0 (capacities_of p) + 192 * user
 
-  enough : checked refuse give p memory long user query ≡ at_hand (ltb user p.users)
-  enough = ap (λ (b : Bool). cond b (refuse (OutOfBounds (length memory))) (checked_by refuse give p memory long user query (contract_at p user) (cache_at p user))) (le-ltb (length memory) (memory_length p) l)
+  -- what goes on with a user's view
+  abbrev inquiry : List ℕ → Inquiry
+  inquiry v = record { query = query; compartments = compartments_for v query; versions = versions_in p memory v; at = place }
 
-  checked_absent : p.users ≤ user → checked refuse give p memory long user query ≡ refuse (NoUser user)
-  checked_absent h = enough ∙ ap (λ (b : Bool). at_hand b) (le-ltb user p.users h)
+  abbrev with_view : List ℕ → CallResult Outcome
+  with_view v =
+      unless_refused memory row (check_told (length row) (row_length_for (rules_of p).capacity v query) (lowest_fault p memory v)) (λ x.
+      inquiry_result p memory row (inquiry v))
 
-  checked_there : user < p.users → damaged p memory ((rules_of p).view user) ≡ None →
-      checked refuse give p memory long user query
-      ≡ unless refuse (give ((rules_of p).view user) (end_from 0 (capacities_of p) + 192 * user)) (by_length (needed (rules_of p) user query) long)
-  checked_there h d =
-      let at = end_from 0 (capacities_of p) + 192 * user in
-      let v = (rules_of p).view user in
-      enough
-      ∙ ap (λ (b : Bool). at_hand b) (lt-ltb user p.users h)
-      ∙ ap (λ (k : Contract). unless refuse (give (view_of k) at) (refusal_of p memory long (view_of k) query)) (sym (get_or-take p.users p.contracts user nobody h))
-      ∙ ap (λ (o : Option ℕ). unless refuse (give v at) (refusal_by long (needed_for (rules_of p).capacity v query) o)) d
-      ∙ ap (λ (o : Option Refusal). unless refuse (give v at) o) (refusal_is (rules_of p) user query long)
+  ask_absent : p.users ≤ user → ask_result p memory row user query ≡ refusal_result memory row (NoUser user)
+  ask_absent h = rw (le-ltb (length memory) (memory_length p) l, le-ltb user p.users h) refl
+
+  ask_there : user < p.users → ask_result p memory row user query ≡ with_view ((rules_of p).view user)
+  ask_there h =
+      rw (le-ltb (length memory) (memory_length p) l, lt-ltb user p.users h)
+      (ap (λ (k : Contract). with_view (view_of k)) (sym (get_or-take p.users p.contracts user nobody h)))
+
+  module _ (h : user < p.users) (d : lowest_fault p memory ((rules_of p).view user) ≡ None) where
+    checked : ask_result p memory row user query ≡
+        unless_refused memory row (by_length (needed_length (rules_of p) user query) (length row)) (λ x. inquiry_result p memory row (inquiry ((rules_of p).view user)))
+    checked =
+        let v = (rules_of p).view user in
+        ask_there h
+        ∙ ap (λ (o : Option ℕ). unless_refused memory row (check_told (length row) (row_length_for (rules_of p).capacity v query) o) (λ x. inquiry_result p memory row (inquiry v))) d
+        ∙ ap (λ (r : Result (Unit {0}) Refusal). unless_refused memory row r (λ x. inquiry_result p memory row (inquiry v))) (check_is (rules_of p) user query (length row))
+
+    ask_short : leb (needed_length (rules_of p) user query) (length row) ≡ false → ask_result p memory row user query ≡ refusal_result memory row (ShortRow (length row))
+    ask_short t = checked ∙ rw t refl
+
+    ask_enough : leb (needed_length (rules_of p) user query) (length row) ≡ true →
+        ask_result p memory row user query ≡ inquiry_result p memory row (inquiry ((rules_of p).view user))
+    ask_enough t = checked ∙ rw t refl
 
 -- THE MODEL
 
@@ -122,234 +130,201 @@ module _ (r : Rules) (limit : ℕ) (s : State) (user : ℕ) (query : Query) (len
   model_absent a = rw a refl
 
   module _ (a : ltb user r.users ≡ true) where
-    model_short : leb (needed r user query) lent ≡ false → response r limit s (lend (Ask user query) lent) ≡ refused (ShortRow lent)
+    model_short : leb (needed_length r user query) lent ≡ false → response r limit s (lend (Ask user query) lent) ≡ refused (ShortRow lent)
     model_short b = rw (a, b) refl
 
-    short_cache : leb (needed r user query) lent ≡ false → (step r limit s (lend (Ask user query) lent)).cache user ≡ s.cache user
+    short_cache : leb (needed_length r user query) lent ≡ false → (step r limit s (lend (Ask user query) lent)).cache user ≡ s.cache user
     short_cache b = rw (a, b) refl
 
-    model_told : (k : Option Kept) → leb (needed r user query) lent ≡ true → found_among r s user query ≡ k →
-        response r limit s (lend (Ask user query) lent) ≡ answering r s user query k
+    model_told : (k : Option CachedAnswer) → leb (needed_length r user query) lent ≡ true → found_among r s user query ≡ k →
+        response r limit s (lend (Ask user query) lent) ≡ respond_query r s user query k
     model_told k b e = rw (a, b, e) refl
 
-    hit_cache : (k : Kept) → leb (needed r user query) lent ≡ true → found_among r s user query ≡ Some k →
+    hit_cache : (k : CachedAnswer) → leb (needed_length r user query) lent ≡ true → found_among r s user query ≡ Some k →
         (step r limit s (lend (Ask user query) lent)).cache user ≡ s.cache user
     hit_cache k b e = rw (a, b, e) refl
 
-    miss_cache : leb (needed r user query) lent ≡ true → found_among r s user query ≡ None →
+    miss_cache : leb (needed_length r user query) lent ≡ true → found_among r s user query ≡ None →
         (step r limit s (lend (Ask user query) lent)).cache user ≡ take 8 (entry r s user query ∷ s.cache user)
     miss_cache b e = rw (a, b, e, eq-eqb user user refl) refl
 
 -- WHAT IS TOLD
 
-kept_is : (a : Answered) (row : List ℕ) → kept_from a ≡ keep (read_answer a row)
-kept_is (InRows compartments) row = refl
-kept_is (InTotal rows amount) row = refl
-kept_is (InShared rows) row = refl
-kept_is InNone row = refl
-
-recalled_right : (kept : Kept) (told : Outcome) (again row : List ℕ) (a : Answer) → read_answer told.answered again ≡ a →
-    Tells (recalled kept (Ok told)) (recalled_row kept again row) (answered (recall kept a) 0)
-recalled_right kept_rows told again row a e = ap (λ (b : Answer). answered b 0) (sym e)
-recalled_right (kept_total rows amount) told again row a e = refl
-recalled_right kept_shared told again row a e = ap (λ (b : Answer). answered b 0) (sym e)
-recalled_right kept_none told again row a e = refl
+kept_is : (a : Answer) → cached_from (answered_of a) ≡ keep a
+kept_is (lists ls) = refl
+kept_is (total count sum) = refl
+kept_is (list rs) = refl
+kept_is not_seen = refl
 
 pub same_cache : (at : ℕ) (memory : List ℕ) → memory ≡ with_cache at (cache_part at memory) memory
 same_cache at memory =
     sym (ap (λ (xs : List ℕ). take at memory ++ xs) (take-append-drop 192 (drop at memory)) ∙ take-append-drop at memory)
 
-tells_by : (t t' : Result Outcome Refusal) (row row' : List ℕ) (m m' : Response) → t ≡ t' → row ≡ row' → m ≡ m' → Tells t' row' m' → Tells t row m
-tells_by t t' row row' m m' e f g h = rw (e, f, g) h
+-- an answer that was worked out over memory, and what comes of it where the cache has something kept
+module _ (memory row : List ℕ) (a : Answer) (examined : ℕ) where
+  abbrev worked : CallResult Outcome
+  worked = record { told = Ok (outcome_of a examined); memory = memory; row = with_answer a row }
 
-recalled_left : (kept : Kept) (again row : List ℕ) (a : Answer) → again ≡ with_answer a row → recalled_row kept again row ≡ with_answer (recall kept a) row
-recalled_left kept_rows again row a e = e
-recalled_left (kept_total rows amount) again row a e = refl
-recalled_left kept_shared again row a e = e
-recalled_left kept_none again row a e = refl
+  recall_told : (kept : CachedAnswer) → (recall_result row worked kept).told ≡ result_of (answered (recall kept a) 0)
+  recall_told kept_rows = refl
+  recall_told (kept_total rows amount) = refl
+  recall_told kept_shared = refl
+  recall_told kept_none = refl
 
--- the row after the model's response is the one that is left
-left_by : (x y row : List ℕ) (m n : Response) → x ≡ y → m ≡ n → y ≡ row_with n row → x ≡ row_with m row
-left_by x y row m n e f g = rw (e, f) g
+  recall_row : (kept : CachedAnswer) → (recall_result row worked kept).row ≡ row_with (answered (recall kept a) 0) row
+  recall_row kept_rows = refl
+  recall_row (kept_total rows amount) = refl
+  recall_row kept_shared = refl
+  recall_row kept_none = refl
 
-told_right : (a b : Answer) (m n : ℕ) → b ≡ a → n ≡ m → answered a m ≡ answered b n
-told_right a b m n e f = rw (e, f) refl
+  recall_memory : (kept : CachedAnswer) → (recall_result row worked kept).memory ≡ memory
+  recall_memory kept_rows = refl
+  recall_memory (kept_total rows amount) = refl
+  recall_memory kept_shared = refl
+  recall_memory kept_none = refl
+
+  recall_reading : (kept : CachedAnswer) → read_answer (answered_of a) (with_answer a row) ≡ a →
+      read_result (recall_result row worked kept).told (recall_result row worked kept).row ≡ answered (recall kept a) 0
+  recall_reading kept_rows e = ap (λ (b : Answer). answered b 0) e
+  recall_reading (kept_total rows amount) e = refl
+  recall_reading kept_shared e = ap (λ (b : Answer). answered b 0) e
+  recall_reading kept_none e = refl
 
 -- ALL TOGETHER
 
-module _ (p : Policy) (limit : ℕ) (s : State) (user : ℕ) (query : Query) (memory row : List ℕ) (h : Holds p s user memory) where
+module _ (p : Policy) (limit : ℕ) (s : State) (user : ℕ) (query : Query) (memory row : List ℕ) (h : HoldsView p s user memory) where
   abbrev view : List ℕ
   view = (rules_of p).view user
 
-  abbrev place : ℕ
-  place = end_from 0 (capacities_of p) + 192 * user
+  abbrev cache_start : ℕ
+  cache_start = place p memory row user query h.long
 
-  abbrev told_of : List ℕ → ℕ → Result Outcome Refusal
-  told_of v a = told_by p memory v query (length row) (found p memory v a query)
-
-  abbrev row_of : List ℕ → ℕ → List ℕ
-  row_of v a = row_by p memory v query row (found p memory v a query)
-
-  abbrev memory_of : List ℕ → ℕ → List ℕ
-  memory_of v a = memory_by p memory v (versions_in p memory v) a query (length row) (found p memory v a query)
+  abbrev asked : Inquiry
+  asked = inquiry p memory row user query h.long view
 
   abbrev next_cache : List Entry
   next_cache = (step (rules_of p) limit s (lend (Ask user query) (length row))).cache user
 
-  abbrev refuse : Refusal → Result Outcome Refusal
-  refuse r = Err r
-
-  abbrev row_left : Refusal → List ℕ
-  row_left r = row
-
-  abbrev memory_left : Refusal → List ℕ
-  memory_left r = memory
+  -- the call does as `r` says, and the model responds `m`
+  from_result : (r : CallResult Outcome) (m : Response) → ask_result p memory row user query ≡ r →
+      response (rules_of p) limit s (lend (Ask user query) (length row)) ≡ m → r.told ≡ result_of m → r.row ≡ row_with m row → read_result r.told r.row ≡ m →
+      ((at : ℕ) → cache_at p user ≡ Some at → r.memory ≡ with_cache at (padded_entries 8 next_cache) memory) → (cache_at p user ≡ None → r.memory ≡ memory) →
+      AsModel p limit s user query memory row
+  from_result r m e f told left reading kept absent = record {
+    told = rw (e, f) told;
+    row = rw (e, f) left;
+    reading = rw (e, f) reading;
+    kept = λ at i. rw e (kept at i);
+    absent = λ i. rw e (absent i);
+  }
 
   few : length view ≤ 16
   few = view_few (get_or (take p.users p.contracts) user nobody)
 
-  undamaged : damaged p memory view ≡ None
-  undamaged = none_damaged p memory view h.bounds
+  undamaged : lowest_fault p memory view ≡ None
+  undamaged = no_fault p memory view h.bounds
 
   versions_are : versions_in p memory view ≡ versions_seen (rules_of p) s user
   versions_are = same_map view (version_at p memory) s.version h.version
 
-  parts_are : parts_in p memory (looked_at view query) ≡ parts_of s.rows (looked_at view query)
-  parts_are = same_map (looked_at view query) (part_at p memory) (λ (c : ℕ). flat (s.rows c)) (λ c k. h.rows c (lent_is_seen view query c k))
+  parts_are : parts_in p memory (compartments_for view query) ≡ parts_of s.rows (compartments_for view query)
+  parts_are = same_map (compartments_for view query) (part_at p memory) (λ (c : ℕ). flat (s.rows c)) (λ c k. h.rows c (lent_is_seen view query c k))
 
-  worked : (told : Outcome) → Right view s.rows query row told → worked_out p memory view query (length row) ≡ Ok told
-  worked told w =
-      ap (λ (ps : List (List ℕ)). ok_or (outcome query ps (length row)) (ShortRow (length row))) parts_are
-      ∙ ap (λ (o : Option Outcome). ok_or o (ShortRow (length row))) w.tells.returned
-
-  abbrev row_again : List ℕ
-  row_again = row_after query (parts_of s.rows (looked_at view query)) row
-
-  again_is : worked_row p memory view query row ≡ row_again
-  again_is = ap (λ (ps : List (List ℕ)). row_after query ps row) parts_are
-
-  same_memory : (at : ℕ) → cache_at p user ≡ Some at → next_cache ≡ s.cache user → memory ≡ with_cache at (held 8 next_cache) memory
+  same_memory : (at : ℕ) → cache_at p user ≡ Some at → next_cache ≡ s.cache user → memory ≡ with_cache at (padded_entries 8 next_cache) memory
   same_memory at i k =
       same_cache at memory
       ∙ ap (λ (ps : List ℕ). with_cache at ps memory) (h.cache at i)
-      ∙ ap (λ (es : List Entry). with_cache at (held 8 es) memory) (sym k)
+      ∙ ap (λ (es : List Entry). with_cache at (padded_entries 8 es) memory) (sym k)
 
-  none_there : p.users ≤ user → AsModelWithRow p limit s user query memory row
+  none_there : p.users ≤ user → AsModel p limit s user query memory row
   none_there u =
       let f = le-ltb user p.users u in
-      let m = checked_absent memory_left memory_of p memory (length row) user query h.long u in
-      record {
-        model = record {
-          told = tells_by _ _ _ _ _ _ (checked_absent refuse told_of p memory (length row) user query h.long u) refl (model_absent (rules_of p) limit s user query (length row) f) refl;
-          kept = λ at i. absurd (none-some at (sym (ap (λ (b : Bool). cond b (Some place) None) f) ∙ i));
-          absent = λ i. m;
-        };
-        left = left_by _ _ _ _ _ (checked_absent row_left row_of p memory (length row) user query h.long u) (model_absent (rules_of p) limit s user query (length row) f) refl;
-      }
+      from_result (refusal_result memory row (NoUser user)) (refused (NoUser user)) (ask_absent p memory row user query h.long u)
+      (model_absent (rules_of p) limit s user query (length row) f) refl refl refl
+      (λ at i. absurd (none-some at (sym (ap (λ (b : Bool). cond b (Some cache_start) None) f) ∙ i)))
+      (λ i. refl)
 
   module _ (u : user < p.users) where
-    here : cache_at p user ≡ Some place
-    here = ap (λ (b : Bool). cond b (Some place) None) (lt-ltb user p.users u)
+    here : cache_at p user ≡ Some cache_start
+    here = ap (λ (b : Bool). cond b (Some cache_start) None) (lt-ltb user p.users u)
 
-    found_is : found p memory view place query ≡ found_among (rules_of p) s user query
+    found_is : look_up query (versions_in p memory view) (cache_part cache_start memory) ≡ found_among (rules_of p) s user query
     found_is =
         let vs = versions_seen (rules_of p) s user in
         let n : length vs ≡ length view = length-map view s.version in
         let o : OfView (length vs) (s.cache user) = subst (λ (k : ℕ). OfView k (s.cache user)) (sym n) h.of_view in
-        ap (λ (ws : List ℕ). look_up query ws (cache_part place memory)) versions_are
-        ∙ ap (λ (ps : List ℕ). look_up query vs ps) (h.cache place here)
+        ap (λ (ws : List ℕ). look_up query ws (cache_part cache_start memory)) versions_are
+        ∙ ap (λ (ps : List ℕ). look_up query vs ps) (h.cache cache_start here)
         ∙ look_up_flat query vs (s.cache user) (192 - 24 * length (s.cache user))
         ∙ find_is_exact query vs (s.cache user) (omega (arith, few)) o
 
-    settled : {X : Type 0} (stop : Refusal → X) (give : List ℕ → ℕ → X) (b : Bool) → leb (needed (rules_of p) user query) (length row) ≡ b →
-        checked stop give p memory (length row) user query ≡ cond b (give view place) (stop (ShortRow (length row)))
-    settled stop give true t =
-        checked_there stop give p memory (length row) user query h.long u undamaged
-        ∙ ap (λ (b : Bool). unless stop (give view place) (cond b None (Some (ShortRow (length row))))) t
-    settled stop give false t =
-        checked_there stop give p memory (length row) user query h.long u undamaged
-        ∙ ap (λ (b : Bool). unless stop (give view place) (cond b None (Some (ShortRow (length row))))) t
-
-    too_short : leb (needed (rules_of p) user query) (length row) ≡ false → AsModelWithRow p limit s user query memory row
+    too_short : leb (needed_length (rules_of p) user query) (length row) ≡ false → AsModel p limit s user query memory row
     too_short t =
         let l = lt-ltb user p.users u in
-        let m = settled memory_left memory_of false t in
-        record {
-          model = record {
-            told = tells_by _ _ _ _ _ _ (settled refuse told_of false t) refl (model_short (rules_of p) limit s user query (length row) l t) refl;
-            kept = λ at i. m ∙ same_memory at i (short_cache (rules_of p) limit s user query (length row) l t);
-            absent = λ i. m;
-          };
-          left = left_by _ _ _ _ _ (settled row_left row_of false t) (model_short (rules_of p) limit s user query (length row) l t) refl;
-        }
+        from_result (refusal_result memory row (ShortRow (length row))) (refused (ShortRow (length row))) (ask_short p memory row user query h.long u undamaged t)
+        (model_short (rules_of p) limit s user query (length row) l t) refl refl refl
+        (λ at i. same_memory at i (short_cache (rules_of p) limit s user query (length row) l t))
+        (λ i. refl)
 
-    module _ (t : leb (needed (rules_of p) user query) (length row) ≡ true) (told : Outcome) (w : Right view s.rows query row told) where
-      hit : (k : Kept) → found_among (rules_of p) s user query ≡ Some k → AsModelWithRow p limit s user query memory row
+    module _ (t : leb (needed_length (rules_of p) user query) (length row) ≡ true) (right : IsModelAnswer view s.rows query row) where
+      abbrev told_answer : Answer
+      told_answer = answer view s.rows query
+
+      abbrev told_cost : ℕ
+      told_cost = cost view s.rows query
+
+      work_is : work_result p memory row asked ≡ worked memory row told_answer told_cost
+      work_is = rw (parts_are, right.returned, right.row) refl
+
+      by_cache : (k : Option CachedAnswer) → found_among (rules_of p) s user query ≡ k →
+          ask_result p memory row user query ≡ cache_result asked row (worked memory row told_answer told_cost) k
+      by_cache k e =
+          ask_enough p memory row user query h.long u undamaged t
+          ∙ ap (λ (o : Option CachedAnswer). cache_result asked row (work_result p memory row asked) o) (found_is ∙ e)
+          ∙ ap (λ (w : CallResult Outcome). cache_result asked row w k) work_is
+
+      hit : (k : CachedAnswer) → found_among (rules_of p) s user query ≡ Some k → AsModel p limit s user query memory row
       hit k e =
           let l = lt-ltb user p.users u in
-          let f = found_is ∙ e in
-          let a : asked_told p memory (length row) user query ≡ recalled k (Ok told) =
-          settled refuse told_of true t ∙ ap (λ (o : Option Kept). told_by p memory view query (length row) o) f ∙ ap (λ (x : Result Outcome Refusal). recalled k x) (worked told w) in
-          let b : asked_row p memory row user query ≡ recalled_row k row_again row =
-          settled row_left row_of true t ∙ ap (λ (o : Option Kept). row_by p memory view query row o) f ∙ ap (λ (x : List ℕ). recalled_row k x row) again_is in
-          let m : asked_memory p memory (length row) user query ≡ memory =
-          settled memory_left memory_of true t ∙ ap (λ (o : Option Kept). memory_by p memory view (versions_in p memory view) place query (length row) o) f in
-          record {
-            model = record {
-              told = tells_by _ _ _ _ _ _ a b (model_told (rules_of p) limit s user query (length row) l (Some k) t e) (recalled_right k told row_again row (answer view s.rows query) w.tells.right);
-              kept = λ at i. m ∙ same_memory at i (hit_cache (rules_of p) limit s user query (length row) l k t e);
-              absent = λ i. m;
-            };
-            left = left_by _ _ _ _ _ b (model_told (rules_of p) limit s user query (length row) l (Some k) t e) (recalled_left k row_again row (answer view s.rows query) w.left);
-          }
+          let m = recall_memory memory row told_answer told_cost k in
+          from_result (recall_result row (worked memory row told_answer told_cost) k) (answered (recall k told_answer) 0) (by_cache (Some k) e)
+          (model_told (rules_of p) limit s user query (length row) l (Some k) t e)
+          (recall_told memory row told_answer told_cost k) (recall_row memory row told_answer told_cost k)
+          (recall_reading memory row told_answer told_cost k right.reading)
+          (λ at i. m ∙ same_memory at i (hit_cache (rules_of p) limit s user query (length row) l k t e))
+          (λ i. m)
 
-      miss : found_among (rules_of p) s user query ≡ None → AsModelWithRow p limit s user query memory row
+      miss : found_among (rules_of p) s user query ≡ None → AsModel p limit s user query memory row
       miss e =
           let l = lt-ltb user p.users u in
-          let f = found_is ∙ e in
           let vs = versions_seen (rules_of p) s user in
-          let new = keep (answer view s.rows query) in
-          let a : asked_told p memory (length row) user query ≡ Ok told =
-          settled refuse told_of true t ∙ ap (λ (o : Option Kept). told_by p memory view query (length row) o) f ∙ worked told w in
-          let b : asked_row p memory row user query ≡ row_again =
-          settled row_left row_of true t ∙ ap (λ (o : Option Kept). row_by p memory view query row o) f ∙ again_is in
-          let m : asked_memory p memory (length row) user query ≡ with_cache place (keep_in query (versions_in p memory view) (kept_from told.answered) (cache_part place memory)) memory =
-          settled memory_left memory_of true t
-          ∙ ap (λ (o : Option Kept). memory_by p memory view (versions_in p memory view) place query (length row) o) f
-          ∙ ap (λ (x : Result Outcome Refusal). kept_by place query (versions_in p memory view) memory x) (worked told w) in
-          let n : asked_memory p memory (length row) user query ≡ with_cache place (held 8 next_cache) memory =
-          m
-          ∙ ap (λ (ws : List ℕ). with_cache place (keep_in query ws (kept_from told.answered) (cache_part place memory)) memory) versions_are
-          ∙ ap (λ (k : Kept). with_cache place (keep_in query vs k (cache_part place memory)) memory) (kept_is told.answered row_again ∙ ap (λ (x : Answer). keep x) w.tells.right)
-          ∙ ap (λ (ps : List ℕ). with_cache place (keep_in query vs new ps) memory) (h.cache place here)
-          ∙ ap (λ (ps : List ℕ). with_cache place ps memory) (keep_held (entry (rules_of p) s user query) 8 (s.cache user) h.few)
-          ∙ ap (λ (es : List Entry). with_cache place (held 8 es) memory) (sym (miss_cache (rules_of p) limit s user query (length row) l t e)) in
-          record {
-            model = record {
-              told = tells_by _ _ _ _ _ _ a b (model_told (rules_of p) limit s user query (length row) l None t e) (told_right _ _ _ _ w.tells.right w.tells.examined);
-              kept = λ at i. n ∙ ap (λ (k : ℕ). with_cache k (held 8 next_cache) memory) (same_Some place at (sym here ∙ i));
-              absent = λ i. absurd (none-some place (sym i ∙ here));
-            };
-            left = left_by _ _ _ _ _ b (model_told (rules_of p) limit s user query (length row) l None t e) w.left;
-          }
+          let new = with_cache cache_start (keep_in query (versions_in p memory view) (cached_from (answered_of told_answer)) (cache_part cache_start memory)) memory in
+          let n : new ≡ with_cache cache_start (padded_entries 8 next_cache) memory =
+          ap (λ (ws : List ℕ). with_cache cache_start (keep_in query ws (cached_from (answered_of told_answer)) (cache_part cache_start memory)) memory) versions_are
+          ∙ ap (λ (k : CachedAnswer). with_cache cache_start (keep_in query vs k (cache_part cache_start memory)) memory) (kept_is told_answer)
+          ∙ ap (λ (ps : List ℕ). with_cache cache_start (keep_in query vs (keep told_answer) ps) memory) (h.cache cache_start here)
+          ∙ ap (λ (ps : List ℕ). with_cache cache_start ps memory) (keep_held (entry (rules_of p) s user query) 8 (s.cache user) h.few)
+          ∙ ap (λ (es : List Entry). with_cache cache_start (padded_entries 8 es) memory) (sym (miss_cache (rules_of p) limit s user query (length row) l t e)) in
+          from_result (cache_result asked row (worked memory row told_answer told_cost) None) (answered told_answer told_cost) (by_cache None e)
+          (model_told (rules_of p) limit s user query (length row) l None t e) refl refl
+          (ap (λ (a : Answer). answered a told_cost) right.reading)
+          (λ at i. n ∙ ap (λ (k : ℕ). with_cache k (padded_entries 8 next_cache) memory) (same_Some cache_start at (sym here ∙ i)))
+          (λ i. absurd (none-some cache_start (sym i ∙ here)))
 
-      either : (k : Option Kept) → found_among (rules_of p) s user query ≡ k → AsModelWithRow p limit s user query memory row
+      either : (k : Option CachedAnswer) → found_among (rules_of p) s user query ≡ k → AsModel p limit s user query memory row
       either (Some k) e = hit k e
       either None e = miss e
 
-    answered_there : leb (needed (rules_of p) user query) (length row) ≡ true → AsModelWithRow p limit s user query memory row
+    answered_there : leb (needed_length (rules_of p) user query) (length row) ≡ true → AsModel p limit s user query memory row
     answered_there t =
-        let r = rows_hold_answers (rules_of p).capacity view s.rows query row few h.orderly (long_enough (rules_of p) user query (length row) t) in
-        either t r.0 r.1 (found_among (rules_of p) s user query) refl
+        let r = answers_as_model (rules_of p).capacity view s.rows query row few h.orderly (long_enough (rules_of p) user query (length row) t) in
+        either t r (found_among (rules_of p) s user query) refl
 
-pub queries_with_row : QueriesAsModelWithRow
-queries_with_row p limit s user query memory row h = elim (cases_lt user p.users) [
-  | inl u ↦ elim (cases_Bool (leb (needed (rules_of p) user query) (length row))) [
+pub queries_as_model : QueriesAsModel
+queries_as_model p limit s user query memory row h = elim (cases_lt user p.users) [
+  | inl u ↦ elim (cases_Bool (leb (needed_length (rules_of p) user query) (length row))) [
     | inl t ↦ answered_there p limit s user query memory row h u t
     | inr t ↦ too_short p limit s user query memory row h u t
   ]
   | inr u ↦ none_there p limit s user query memory row h u
 ]
-
-pub queries_as_model : QueriesAsModel
-queries_as_model p limit s user query memory row h = (queries_with_row p limit s user query memory row h).model

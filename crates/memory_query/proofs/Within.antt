@@ -1,7 +1,7 @@
 -- A user's cache, lent as a part of memory.
 use Rattle.std.proofs.Common.{◌≡◌, ℕ, ◌+◌, ◌-◌, List, take, drop, refl, arith}
 use borrow.Rule.Slice.PartMut.{put_mid}
-use Rattle.memory_query.specs.Asked.{cache_part, with_cache}
+use Rattle.memory_query.specs.MemoryParts.{cache_part, with_cache}
 
 -- a part that is lent has 192 numbers
 long : (at : ℕ) → at + 192 - at ≡ 192

@@ -1,7 +1,7 @@
 -- What the contracts of this crate cite.
-pub mod Places
-pub mod Asked
-pub mod Held
+pub mod CallResult
+pub mod MemoryParts
+pub mod AskResult
 pub mod Tie
 pub mod Alike
 pub mod Stay

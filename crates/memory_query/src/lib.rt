@@ -1,26 +1,25 @@
-// A query answered over the store's lent memory: from the user's cache, or worked out of the compartments that the user sees.
+//! A query answered over the store's lent memory: from the user's cache, or worked out of what the user sees.
 #![tactic(auto)]
 
 ghost use Rattle.std.specs.Prelude.{◌≡◌, ◌+◌, ◌≤◌, length};
 ghost use Rattle.policy.specs.Access.{memory_length};
-ghost use Rattle.memory_query.specs.Asked.{asked_told, asked_memory, asked_row};
-ghost use Rattle.memory_query.specs.Held.{told_at, memory_at, row_at};
+ghost use Rattle.memory_query.specs.AskResult.{inquiry_of, check_told, inquiry_result, ask_result};
 
 use base::Refusal;
-use held::Held;
+use inquiry::CheckedQuery;
 use policy::Policy;
-use query::{Outcome, Query};
-use worked::Asked;
+use query::{Outcome, Query, Scope};
+use storage::Storage;
 
-mod cached;
-mod held;
+mod answers;
+mod inquiry;
 pub mod laws;
 mod places;
+mod storage;
 mod views;
-mod worked;
 
-// Answers a user's query. Refused are, in this order: memory that is too short, a user who isn't there, a row that is too short,
-// and what is out of bounds in the user's view. Every refusal leaves memory and the answer row as they were.
+/// Answers a user's query. Refused are, in this order: memory that is too short, an unknown user, an answer row that is
+/// too short, and what is out of bounds in the user's view. A refusal leaves memory and the answer row as they were.
 pub fn ask(
     policy: &Policy,
     memory: &mut [u64],
@@ -28,53 +27,72 @@ pub fn ask(
     user: usize,
     query: Query,
 ) -> Result<Outcome, Refusal>
-    ensures told { result ≡ asked_told policy.now memory.old (length row.old) user query }
-    ensures after { memory.new ≡ asked_memory policy.now memory.old (length row.old) user query }
-    ensures lent { row.new ≡ asked_row policy.now memory.old row.old user query }
+    ensures told { result ≡ (ask_result policy.now memory.old row.old user query).told }
+    ensures after { memory.new ≡ (ask_result policy.now memory.old row.old user query).memory }
+    ensures lent { row.new ≡ (ask_result policy.now memory.old row.old user query).row }
 {
     policy.check_length(memory)?;
-    let (contract, at) = policy
-        .contract(user)
-        .zip(policy.cache(user))
-        .ok_or(Refusal::NoUser { user })?;
-    let asked = Asked { contract, query };
-    Held { policy, memory }.check(&asked, row.len())?;
-    found_or_not(policy, memory, row, &asked, at)
+    let Some((contract, at)) = policy.contract(user).zip(policy.cache(user)) else {
+        return Err(Refusal::NoUser { user });
+    };
+    let scope = Scope::of(contract, query);
+    let survey = Storage { policy, memory }.survey(contract);
+    check(scope.needed(policy), row.len(), survey.fault)?;
+    let versions = survey.versions.as_slice();
+    let inquiry = CheckedQuery {
+        query,
+        scope,
+        versions,
+        at,
+    };
+    find_or_work_out(policy, memory, row, &inquiry)
+}
+
+// Refused are a row shorter than is needed, then what is out of bounds; neither matters where no row is needed.
+fn check(needed: Option<usize>, length: usize, fault: Option<usize>) -> Result<(), Refusal>
+    ensures { result ≡ check_told length needed fault }
+{
+    let Some(needed) = needed else {
+        return Ok(());
+    };
+    if length < needed {
+        return Err(Refusal::ShortRow { length });
+    }
+    let Some(place) = fault else {
+        return Ok(());
+    };
+    Err(Refusal::OutOfBounds { place })
 }
 
 // Answers from the cache, with no row examined and memory as it was; or works it out and keeps it.
-fn found_or_not(
+fn find_or_work_out(
     policy: &Policy,
     memory: &mut [u64],
     row: &mut [u64],
-    asked: &Asked,
-    at: usize,
+    inquiry: &CheckedQuery,
 ) -> Result<Outcome, Refusal>
     requires long { memory_length policy.now ≤ length memory.old }
-    requires cache { at + 192 ≤ length memory.old }
-    ensures told { result ≡ told_at policy.now memory.old asked.now at (length row.old) }
-    ensures after { memory.new ≡ memory_at policy.now memory.old asked.now at (length row.old) }
-    ensures lent { row.new ≡ row_at policy.now memory.old asked.now at row.old }
+    requires cache { inquiry.now.at + 192 ≤ length memory.old }
+    ensures told { result ≡ (inquiry_result policy.now memory.old row.old (inquiry_of inquiry.now)).told }
+    ensures after { memory.new ≡ (inquiry_result policy.now memory.old row.old (inquiry_of inquiry.now)).memory }
+    ensures lent { row.new ≡ (inquiry_result policy.now memory.old row.old (inquiry_of inquiry.now)).row }
 {
-    let held = Held { policy, memory };
-    let versions = held.versions(asked.contract);
-    let versions = versions.as_slice();
-    if let Some(kept) = cached::look_up(memory, at, asked.query, versions) {
-        return held.recall(asked, kept, row);
+    let storage = Storage { policy, memory };
+    if let Some(kept) = inquiry.look_up(memory) {
+        return storage.recall(inquiry, kept, row);
     }
-    let told = held.work_out(asked, row)?;
-    let kept = told.answered.into();
-    cached::keep(memory, at, asked.query, versions, kept);
-    Ok(told)
+    let outcome = storage.work_out(inquiry, row)?;
+    inquiry.keep(memory, outcome.answered.into());
+    Ok(outcome)
 }
 
 #[cfg(test)]
 mod tests {
     use super::*;
-    use query::Answered;
+    use query::AnswerSummary;
     use rows::KeyRange;
 
-    // One user, who sees compartments 2 and 0 of three, with capacities 30 and 10: they begin at 64 and 0, the cache at 126.
+    // One user, who sees compartments 2 and 0 of three, of 30 and 10 rows: they begin at 64 and 0, the cache at 126.
     fn policy() -> Result<Policy, Refusal> {
         let mut numbers = [0; 23];
         numbers[0] = 1;
@@ -127,7 +145,7 @@ mod tests {
     // Two rows, 80 in all.
     fn total(examined: usize) -> Result<Outcome, Refusal> {
         Ok(Outcome {
-            answered: Answered::Total {
+            answered: AnswerSummary::Total {
                 rows: 2,
                 amount: 80,
             },
@@ -147,7 +165,7 @@ mod tests {
         assert!(rt; row == [7; 112]);
     }
 
-    // Compartments 0 and 2 are out of bounds, and so is 1, which isn't seen.
+    // Compartments 0 and 2 are out of bounds, and so is 1, which the user does not see.
     fn damage(memory: &mut [u64; 318]) {
         memory[1] = 11;
         memory[22] = 1 << 40;
@@ -180,7 +198,7 @@ mod tests {
         let mut memory = [0; 318];
         damage(&mut memory);
         let unseen = told(&mut memory, &mut [], 0, UNSEEN).map(|told| told.answered);
-        assert_eq!(rt; unseen, Ok(Answered::NotSeen));
+        assert_eq!(rt; unseen, Ok(AnswerSummary::NotSeen));
         assert_eq!(rt; memory[126], 3);
     }
 }

@@ -1,55 +1,52 @@
 // What memory holds of several compartments: versions, the lowest number out of bounds, and rows that are lent.
 ghost use Rattle.std.specs.Prelude.{◌≡◌, map};
 ghost use Rattle.policy.specs.Views.{view_of};
-ghost use Rattle.query.specs.Looks.{places_of};
-ghost use Rattle.memory_query.specs.Places.{lower, damaged};
-ghost use Rattle.memory_query.specs.Asked.{versions_in, parts_in};
+ghost use Rattle.query.specs.Looks.{scope_compartments};
+ghost use Rattle.memory_query.specs.MemoryParts.{lower, lowest_fault, versions_in, parts_in};
 
-use crate::held::Held;
+use crate::storage::Storage;
 use base::{ArrayList, COMPARTMENTS};
 use policy::Contract;
-use query::LookedAt;
+use query::Scope;
 
-impl<'a> Held<'a> {
-    // `versions` and `lend` stay two loops. One function of a closure was tried: it takes two `requires` and a word of its own for what
-    // the list holds, and each caller has to prove that the list is a map.
+// The version of each compartment that a user sees, and the lowest place in them that is out of bounds.
+#[derive(Drop)]
+pub(crate) struct Survey {
+    pub(crate) versions: ArrayList<u64, COMPARTMENTS>,
+    pub(crate) fault: Option<usize>,
+}
 
-    // The version of each compartment that a contract lets its user see.
-    pub(crate) fn versions(&self, contract: &Contract) -> ArrayList<u64, COMPARTMENTS>
-        ensures { result.items ≡ versions_in self.now.policy.now self.now.memory.now (view_of contract.now) }
+impl<'a> Storage<'a> {
+    // One pass over all that a contract lets its user see.
+    pub(crate) fn survey(&self, contract: &Contract) -> Survey
+        ensures versions { result.versions.items
+            ≡ versions_in self.now.policy.now self.now.memory.now (view_of contract.now) }
+        ensures fault { result.fault ≡ lowest_fault self.now.policy.now self.now.memory.now (view_of contract.now) }
     {
         let mut versions = ArrayList::new(0);
+        let mut fault = None;
         for compartment in contract.view() {
-            versions.push(self.version_at(*compartment)).unwrap();
+            let (version, place) = self.version_and_fault(*compartment);
+            versions.push(version).unwrap();
+            fault = lower(fault, place);
         }
-        versions
-    }
-
-    // The lowest place in these compartments that is out of bounds.
-    // As `view.iter().filter_map(..).min()` it was tried, and no proof was found within minutes.
-    pub(crate) fn lowest_fault(&self, view: &[u64]) -> Option<usize>
-        ensures { result ≡ damaged self.now.policy.now self.now.memory.now view.now }
-    {
-        let mut lowest = None;
-        for compartment in view {
-            lowest = lower(lowest, self.fault_at(*compartment));
-        }
-        lowest
+        Survey { versions, fault }
     }
 
     // Lends the rows of each compartment that is looked at, and of no other.
-    pub(crate) fn lend(&self, looked: &LookedAt) -> ArrayList<&'a [u64], COMPARTMENTS>
-        ensures { map (λ x. x.now) result.items ≡ parts_in self.now.policy.now self.now.memory.now (places_of looked.now) }
+    pub(crate) fn lend(&self, scope: &Scope) -> ArrayList<&'a [u64], COMPARTMENTS>
+        ensures { map (λ x. x.now) result.items
+            ≡ parts_in self.now.policy.now self.now.memory.now (scope_compartments scope.now) }
     {
         let mut parts = ArrayList::new(&[][..]);
-        for compartment in looked.compartments() {
-            parts.push(self.rows_at(*compartment)).unwrap();
+        for compartment in scope.compartments() {
+            parts.push(self.rows_of(*compartment)).unwrap();
         }
         parts
     }
 }
 
-// The lower of two places, where there are two. No `min` of two `Option`s passes over `None`.
+// The lower of two places, where there are two; `min` of two `Option`s is `None` where one of them is.
 fn lower(a: Option<usize>, b: Option<usize>) -> Option<usize>
     ensures { result ≡ lower a b }
 {

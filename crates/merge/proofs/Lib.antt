@@ -1,8 +1,5 @@
 -- Lemmas on merging, from lists to memory; the last has the laws.
-pub mod Behind
-pub mod Ranges
-pub mod Turns
-pub mod Parts
+pub mod Runs
+pub mod Orders
 pub mod Merges
-pub mod Moves
 pub mod Proved

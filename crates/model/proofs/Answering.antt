@@ -10,8 +10,8 @@ use Rattle.query.specs.declared.Query.TheVariants.{Shared}
 use Rattle.query.specs.Answers.{Answer, answer, cost, same_query}
 use Rattle.request.specs.declared.Request.{Request}
 use Rattle.request.specs.declared.Request.TheVariants.{Write, Delete, Copy, Query as Ask}
-use Rattle.model.specs.Model.{State, Call, lend, Kept, answered, empty, there, needed, find, versions_seen, look_up, answering, response, accepted, changed, entry, remembered, next, step, run, with_at}
-use Rattle.model.specs.Events.{Event, change, work, known_in, known, noted, events_after}
+use Rattle.model.specs.Model.{State, Call, lend, CachedAnswer, answered, empty, is_user, needed_length, find, versions_seen, look_up, respond_query, response, is_accepted, set_rows, entry, remember, transition, step, run, with_at}
+use Rattle.model.specs.Events.{Event, change, work, is_known_in, is_known, note, events_after}
 use Rattle.model.specs.Promises.{RightAnswers, ShortRows, NotSeen, Again}
 use Rattle.query.proofs.Seen.{SameOn, same_map}
 use Rattle.model.proofs.Alike.{passed}
@@ -22,12 +22,12 @@ use Rattle.model.proofs.Cached.{Fits, AllFit, fit_older, fit_same, recall_keep, 
 pub record Faithful (p : Rules) (u : ℕ) (s : State) (events : List Event) : Type 0 where
   pub bounded : take 8 (s.cache u) ≡ s.cache u
   pub fit : AllFit (p.view u) s.rows (versions_seen p s u) (s.cache u)
-  pub same : (q : Query) (n : ℕ) → n ≤ 8 → known_in p u q n events ≡ is_some (find q (versions_seen p s u) (take n (s.cache u)))
+  pub same : (q : Query) (n : ℕ) → n ≤ 8 → is_known_in p u q n events ≡ is_some (find q (versions_seen p s u) (take n (s.cache u)))
 
 abbrev pub AllFaithful : Rules → State → List Event → Type 0
 AllFaithful p s events = (u : ℕ) → Faithful p u s events
 
-empty_known : (p : Rules) (u : ℕ) (q : Query) (n : ℕ) → known_in p u q n [] ≡ is_some (find q (versions_seen p empty u) (take n []))
+empty_known : (p : Rules) (u : ℕ) (q : Query) (n : ℕ) → is_known_in p u q n [] ≡ is_some (find q (versions_seen p empty u) (take n []))
 empty_known p u q zero = refl
 empty_known p u q (suc n) = refl
 
@@ -43,22 +43,22 @@ module _ (p : Rules) (s : State) (events : List Event) (f : AllFaithful p s even
   unseen_versions u c h = same_map (p.view u) s.version _ (λ (d : ℕ) (k : sees p u d ≡ true). rw (apart p u c d h k))
 
   unseen_known : (u c : ℕ) (new : List Row) → sees p u c ≡ false → (q : Query) (n : ℕ) → n ≤ 8 →
-      known_in p u q n (change c ∷ events) ≡ is_some (find q (versions_seen p (changed s c new) u) (take n (s.cache u)))
+      is_known_in p u q n (change c ∷ events) ≡ is_some (find q (versions_seen p (set_rows s c new) u) (take n (s.cache u)))
   unseen_known u c new h q zero l = refl
   unseen_known u c new h q (suc n) l = rw (h, sym (unseen_versions u c h)) ((f u).same q (suc n) l)
 
   seen_known : (u c : ℕ) (new : List Row) → sees p u c ≡ true → (q : Query) (n : ℕ) → n ≤ 8 →
-      known_in p u q n (change c ∷ events) ≡ is_some (find q (versions_seen p (changed s c new) u) (take n (s.cache u)))
+      is_known_in p u q n (change c ∷ events) ≡ is_some (find q (versions_seen p (set_rows s c new) u) (take n (s.cache u)))
   seen_known u c new h q zero l = refl
   seen_known u c new h q (suc n) l =
-      rw h (sym (none_found q (p.view u) s.rows (versions_seen p s u) (versions_seen p (changed s c new) u) (take (suc n) (s.cache u))
+      rw h (sym (none_found q (p.view u) s.rows (versions_seen p s u) (versions_seen p (set_rows s c new) u) (take (suc n) (s.cache u))
       (raised_more s.version c (p.view u) h) (All-take (Fits (p.view u) s.rows (versions_seen p s u)) (suc n) (s.cache u) (f u).fit)))
 
-  changed_faithful : (c : ℕ) (new : List Row) → AllFaithful p (changed s c new) (change c ∷ events)
+  changed_faithful : (c : ℕ) (new : List Row) → AllFaithful p (set_rows s c new) (change c ∷ events)
   changed_faithful c new u = elim (cases_Bool (sees p u c)) [
     | inl h ↦ record {
       bounded = (f u).bounded;
-      fit = fit_older (p.view u) s.rows (with_at s.rows c new) (versions_seen p s u) (versions_seen p (changed s c new) u) (s.cache u)
+      fit = fit_older (p.view u) s.rows (with_at s.rows c new) (versions_seen p s u) (versions_seen p (set_rows s c new) u) (s.cache u)
           (raised_more s.version c (p.view u) h) (f u).fit;
       same = seen_known u c new h;
     }
@@ -71,7 +71,7 @@ module _ (p : Rules) (s : State) (events : List Event) (f : AllFaithful p s even
 
   -- a query that was worked out is the newest entry, and the newest event
   own_known : (u : ℕ) (q asked : Query) (n : ℕ) → n ≤ 8 →
-      known_in p u q n (work u asked ∷ events) ≡ is_some (find q (versions_seen p s u) (take n (take 8 (entry p s u asked ∷ s.cache u))))
+      is_known_in p u q n (work u asked ∷ events) ≡ is_some (find q (versions_seen p s u) (take n (take 8 (entry p s u asked ∷ s.cache u))))
   own_known u q asked zero l = refl
   own_known u q asked (suc n) l =
       let i = (f u).same q n (omega arith) in
@@ -81,11 +81,11 @@ module _ (p : Rules) (s : State) (events : List Event) (f : AllFaithful p s even
         | inr e ↦ rw e i
       ])
 
-  other_known : (u w : ℕ) (q asked : Query) (n : ℕ) → eqb w u ≡ false → n ≤ 8 → known_in p u q n (work w asked ∷ events) ≡ known_in p u q n events
+  other_known : (u w : ℕ) (q asked : Query) (n : ℕ) → eqb w u ≡ false → n ≤ 8 → is_known_in p u q n (work w asked ∷ events) ≡ is_known_in p u q n events
   other_known u w q asked zero e l = refl
   other_known u w q asked (suc n) e l = rw e
 
-  worked_faithful : (w : ℕ) (q : Query) → AllFaithful p (remembered p s w q None) (work w q ∷ events)
+  worked_faithful : (w : ℕ) (q : Query) → AllFaithful p (remember p s w q None) (work w q ∷ events)
   worked_faithful w q u = elim (cases_eq w u) [
     | inl e ↦ rw e (record {
       bounded = rw (eq-eqb u u refl) (take-take 8 8 (entry p s u q ∷ s.cache u) (omega arith));
@@ -100,34 +100,34 @@ module _ (p : Rules) (s : State) (events : List Event) (f : AllFaithful p s even
     }
   ]
 
-  -- a query is known where it stands in the cache
-  pub known_found : (u : ℕ) (q : Query) → known p u q events ≡ is_some (look_up p s u q)
+  -- a query is known where it is in the cache
+  pub known_found : (u : ℕ) (q : Query) → is_known p u q events ≡ is_some (look_up p s u q)
   known_found u q = let e = (f u).same q 8 (omega arith) in let b = (f u).bounded in rw b at e
 
-  asked_faithful : (u : ℕ) (q : Query) (k : Option Kept) → look_up p s u q ≡ k → AllFaithful p (remembered p s u q k) (cond (is_some k) events (work u q ∷ events))
+  asked_faithful : (u : ℕ) (q : Query) (k : Option CachedAnswer) → look_up p s u q ≡ k → AllFaithful p (remember p s u q k) (cond (is_some k) events (work u q ∷ events))
   asked_faithful u q (Some kept) e = f
   asked_faithful u q None e = worked_faithful u q
 
-  next_faithful : (r : Request) → AllFaithful p (next p s r) (noted p r events)
-  next_faithful (Write u row) = changed_faithful (p.writes u) _
-  next_faithful (Delete u key) = changed_faithful (p.writes u) _
-  next_faithful (Copy u c range) = changed_faithful (p.writes u) _
-  next_faithful (Ask u q) = rw (known_found u q) (asked_faithful u q (look_up p s u q) refl)
+  next_faithful : (limit : ℕ) (r : Request) (lent : ℕ) → AllFaithful p (transition p limit s r lent).next (note p r events)
+  next_faithful limit (Write u row) lent = changed_faithful (p.writes u) _
+  next_faithful limit (Delete u key) lent = changed_faithful (p.writes u) _
+  next_faithful limit (Copy u c range) lent = changed_faithful (p.writes u) _
+  next_faithful limit (Ask u q) lent = rw (known_found u q) (asked_faithful u q (look_up p s u q) refl)
 
-  pub step_faithful : (limit : ℕ) (call : Call) → AllFaithful p (step p limit s call) (cond (accepted (response p limit s call)) (noted p call.request events) events)
-  step_faithful limit call = elim (cases_Bool (accepted (response p limit s call))) [
-    | inl e ↦ rw e (next_faithful call.request)
+  pub step_faithful : (limit : ℕ) (call : Call) → AllFaithful p (step p limit s call) (cond (is_accepted (response p limit s call)) (note p call.request events) events)
+  step_faithful limit call = elim (cases_Bool (is_accepted (response p limit s call))) [
+    | inl e ↦ rw e (next_faithful limit call.request call.lent)
     | inr e ↦ rw e f
   ]
 
-  answering_right : (u : ℕ) (q : Query) (k : Option Kept) → look_up p s u q ≡ k →
-      answering p s u q k ≡ answered (answer (p.view u) s.rows q) (cond (is_some k) 0 (cost (p.view u) s.rows q))
+  answering_right : (u : ℕ) (q : Query) (k : Option CachedAnswer) → look_up p s u q ≡ k →
+      respond_query p s u q k ≡ answered (answer (p.view u) s.rows q) (cond (is_some k) 0 (cost (p.view u) s.rows q))
   answering_right u q (Some kept) e = rw (found_right q (p.view u) s.rows (versions_seen p s u) (s.cache u) kept (f u).fit e)
   answering_right u q None e = refl
 
-  pub answered_right : (limit u : ℕ) (q : Query) (lent : ℕ) → u < p.users → needed p u q ≤ lent →
-      response p limit s (lend (Ask u q) lent) ≡ answered (answer (p.view u) s.rows q) (cond (known p u q events) 0 (cost (p.view u) s.rows q))
-  answered_right limit u q lent h l = rw (lt-ltb u p.users h, le-leb (needed p u q) lent l, known_found u q) (answering_right u q (look_up p s u q) refl)
+  pub answered_right : (limit u : ℕ) (q : Query) (lent : ℕ) → u < p.users → needed_length p u q ≤ lent →
+      response p limit s (lend (Ask u q) lent) ≡ answered (answer (p.view u) s.rows q) (cond (is_known p u q events) 0 (cost (p.view u) s.rows q))
+  answered_right limit u q lent h l = rw (lt-ltb u p.users h, le-leb (needed_length p u q) lent l, known_found u q) (answering_right u q (look_up p s u q) refl)
 
 pub run_faithful : (p : Rules) (limit : ℕ) (s : State) (events : List Event) (calls : List Call) → AllFaithful p s events →
     AllFaithful p (run p limit s calls) (events_after p limit s events calls)
@@ -145,40 +145,40 @@ nothing false = refl
 
 pub not_seen_told : NotSeen
 not_seen_told p limit calls u a b range lent h e =
-    let n : needed p u (Shared a b range) ≤ lent = rw e (omega arith) in
-    right_answers p limit calls u (Shared a b range) lent h n ∙ rw (e, nothing (known p u (Shared a b range) (events_after p limit empty [] calls)))
+    let n : needed_length p u (Shared a b range) ≤ lent = rw e (omega arith) in
+    right_answers p limit calls u (Shared a b range) lent h n ∙ rw (e, nothing (is_known p u (Shared a b range) (events_after p limit empty [] calls)))
 
 pub short_rows : ShortRows
-short_rows p limit s u q lent h l = (rw (lt-ltb u p.users h, lt-leb (needed p u q) lent l), rw (lt-ltb u p.users h, lt-leb (needed p u q) lent l))
+short_rows p limit s u q lent h l = (rw (lt-ltb u p.users h, lt-leb (needed_length p u q) lent l), rw (lt-ltb u p.users h, lt-leb (needed_length p u q) lent l))
 
 -- a query that was just answered is known
-asked_known : (p : Rules) (u : ℕ) (q : Query) (events : List Event) → known p u q (noted p (Ask u q) events) ≡ true
-asked_known p u q events = elim (cases_Bool (known p u q events)) [
+asked_known : (p : Rules) (u : ℕ) (q : Query) (events : List Event) → is_known p u q (note p (Ask u q) events) ≡ true
+asked_known p u q events = elim (cases_Bool (is_known p u q events)) [
   | inl e ↦ rw e e
   | inr e ↦ rw (e, eq-eqb u u refl, same_query_refl q)
 ]
 
-remembered_rows : (p : Rules) (s : State) (u : ℕ) (q : Query) (k : Option Kept) → (remembered p s u q k).rows ≡ s.rows
+remembered_rows : (p : Rules) (s : State) (u : ℕ) (q : Query) (k : Option CachedAnswer) → (remember p s u q k).rows ≡ s.rows
 remembered_rows p s u q (Some kept) = refl
 remembered_rows p s u q None = refl
 
--- who was answered is there, and lent enough
-answered_there : (p : Rules) (limit : ℕ) (s : State) (u : ℕ) (q : Query) (lent : ℕ) → accepted (response p limit s (lend (Ask u q) lent)) ≡ true →
-    (there p u ≡ true) × (leb (needed p u q) lent ≡ true)
+-- who was answered is a user of the policy, and lent enough
+answered_there : (p : Rules) (limit : ℕ) (s : State) (u : ℕ) (q : Query) (lent : ℕ) → is_accepted (response p limit s (lend (Ask u q) lent)) ≡ true →
+    (is_user p u ≡ true) × (leb (needed_length p u q) lent ≡ true)
 answered_there p limit s u q lent h =
-    let t = passed (there p u) _ _ h refl in
-    (t, passed (leb (needed p u q) lent) _ _ (rw t at h) refl)
+    let t = passed (is_user p u) _ _ h refl in
+    (t, passed (leb (needed_length p u q) lent) _ _ (rw t at h) refl)
 
 again_from : (p : Rules) (limit : ℕ) (s : State) (events : List Event) → AllFaithful p s events →
-    (u : ℕ) (q : Query) (lent more : ℕ) (a : Answer) (n : ℕ) → needed p u q ≤ more →
+    (u : ℕ) (q : Query) (lent more : ℕ) (a : Answer) (n : ℕ) → needed_length p u q ≤ more →
     response p limit s (lend (Ask u q) lent) ≡ answered a n → response p limit (step p limit s (lend (Ask u q) lent)) (lend (Ask u q) more) ≡ answered a 0
 again_from p limit s events f u q lent more a n m h =
-    let k : accepted (response p limit s (lend (Ask u q) lent)) ≡ true = rw h in
+    let k : is_accepted (response p limit s (lend (Ask u q) lent)) ≡ true = rw h in
     let t = answered_there p limit s u q lent k in
     let here = ltb-true u p.users t.0 in
-    let first = answered_right p s events f limit u q lent here (leb-true (needed p u q) lent t.1) in
-    let g : AllFaithful p (step p limit s (lend (Ask u q) lent)) (noted p (Ask u q) events) = rw k (next_faithful p s events f (Ask u q)) in
-    let second = answered_right p (step p limit s (lend (Ask u q) lent)) (noted p (Ask u q) events) g limit u q more here m in
+    let first = answered_right p s events f limit u q lent here (leb-true (needed_length p u q) lent t.1) in
+    let g : AllFaithful p (step p limit s (lend (Ask u q) lent)) (note p (Ask u q) events) = rw k (next_faithful p s events f limit (Ask u q) lent) in
+    let second = answered_right p (step p limit s (lend (Ask u q) lent)) (note p (Ask u q) events) g limit u q more here m in
     let known_now = asked_known p u q events in
     let rows_now : (step p limit s (lend (Ask u q) lent)).rows ≡ s.rows = rw k (remembered_rows p s u q (look_up p s u q)) in
     let same : answer (p.view u) s.rows q ≡ a = cc in

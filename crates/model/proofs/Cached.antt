@@ -10,7 +10,7 @@ use Rattle.policy.specs.Rules.{has}
 use Rattle.query.specs.declared.Query.{Query}
 use Rattle.query.specs.declared.Query.TheVariants.{Rows, Total, Shared}
 use Rattle.query.specs.Answers.{Answer, lists, total, list, not_seen, answer, same_query, same_range}
-use Rattle.model.specs.Model.{Entry, Kept, find, same_versions, keep, recall, with_at}
+use Rattle.model.specs.Model.{Entry, CachedAnswer, find, same_versions, keep, recall, with_at}
 use Rattle.query.proofs.Seen.{SameOn, same_answer}
 
 same_range_is : (r s : KeyRange) → same_range r s ≡ true → r ≡ s
@@ -116,7 +116,7 @@ recall_keep (list l) = refl
 recall_keep not_seen = refl
 
 -- a kept answer that is found is right
-pub found_right : (q : Query) (view : List ℕ) (rows : ℕ → List Row) (now : List ℕ) (es : List Entry) (k : Kept) → AllFit view rows now es →
+pub found_right : (q : Query) (view : List ℕ) (rows : ℕ → List Row) (now : List ℕ) (es : List Entry) (k : CachedAnswer) → AllFit view rows now es →
     find q now es ≡ Some k → recall k (answer view rows q) ≡ answer view rows q
 found_right q view rows now [] k h e = absurd cc
 found_right q view rows now (x ∷ es) k h e = elim (cases_Bool (same_query q x.query && same_versions now x.versions)) [

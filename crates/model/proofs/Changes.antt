@@ -11,8 +11,8 @@ use Rattle.policy.specs.Rules.{Rules}
 use Rattle.query.specs.declared.Query.{Query}
 use Rattle.request.specs.declared.Request.{Request}
 use Rattle.request.specs.declared.Request.TheVariants.{Write, Delete, Copy, Query as Ask}
-use Rattle.model.specs.Model.{State, Call, Kept, empty, who, asks, look_up, respond, response, accepted, changed, remembered, next, step, run}
-use Rattle.model.specs.Effects.{WriteTold, DeleteTold, CopyTold, ChangedOnce, WriteEffect, DeleteEffect, CopyEffect, RefusalsChangeNothing, OnlyOwn, OnlyWriters, AbsentUsers, plain, EitherOrder}
+use Rattle.model.specs.Model.{State, Call, CachedAnswer, empty, who, asks, look_up, transition, response, is_accepted, set_rows, remember, step, run}
+use Rattle.model.specs.Effects.{WriteTold, DeleteTold, CopyTold, OneChange, WriteEffect, DeleteEffect, CopyEffect, RefusalsChangeNothing, OnlyOwn, OnlyWriters, AbsentUsers, plain, EitherOrder}
 use Rattle.model.proofs.Orderly.{ordered}
 use Rattle.model.proofs.Interference.{absent}
 
@@ -38,7 +38,7 @@ copy_told p limit calls u source range lent =
     let l = length_put_all 0 from (s.rows c) (up_rows_in 0 range (s.rows source) (ordered p limit calls source).rising) (ordered p limit calls c).rising in
     rw (fits (length (put_all from (s.rows c))) (length (s.rows c)) (length (also_in from (s.rows c))) (length from) (p.capacity c) l)
 
-pub changed_once : (s : State) (c : ℕ) (new : List Row) → ChangedOnce s (changed s c new) c
+pub changed_once : (s : State) (c : ℕ) (new : List Row) → OneChange s (set_rows s c new) c
 changed_once s c new = record {
   version_here = rw (eq-eqb c c refl);
   rows_elsewhere = λ d e. rw (ne_eqb c d e);
@@ -65,7 +65,7 @@ pub refusals_change_nothing : RefusalsChangeNothing
 refusals_change_nothing p limit s call why h = rw h
 
 -- one clause for each request
-changed_own : (p : Rules) (r : Request) (s : State) (new : List Row) → asks r ≡ false → OnlyOwn p r s (changed s (p.writes (who r)) new)
+changed_own : (p : Rules) (r : Request) (s : State) (new : List Row) → asks r ≡ false → OnlyOwn p r s (set_rows s (p.writes (who r)) new)
 changed_own p r s new n = record {
   rows = λ c e. rw (ne_eqb (p.writes (who r)) c e);
   version = λ c e. rw (ne_eqb (p.writes (who r)) c e);
@@ -85,7 +85,7 @@ unchanged_own p r s = record {
   change_cache = λ a u. refl;
 }
 
-remembered_own : (p : Rules) (s : State) (u : ℕ) (q : Query) (k : Option Kept) → OnlyOwn p (Ask u q) s (remembered p s u q k)
+remembered_own : (p : Rules) (s : State) (u : ℕ) (q : Query) (k : Option CachedAnswer) → OnlyOwn p (Ask u q) s (remember p s u q k)
 remembered_own p s u q (Some kept) = unchanged_own p (Ask u q) s
 remembered_own p s u q None = record {
   rows = λ c e. refl;
@@ -96,15 +96,15 @@ remembered_own p s u q None = record {
   change_cache = λ a. absurd cc;
 }
 
-next_own : (p : Rules) (s : State) (r : Request) → OnlyOwn p r s (next p s r)
-next_own p s (Write u row) = changed_own p (Write u row) s _ refl
-next_own p s (Delete u key) = changed_own p (Delete u key) s _ refl
-next_own p s (Copy u c range) = changed_own p (Copy u c range) s _ refl
-next_own p s (Ask u q) = remembered_own p s u q (look_up p s u q)
+next_own : (p : Rules) (limit : ℕ) (s : State) (r : Request) (lent : ℕ) → OnlyOwn p r s (transition p limit s r lent).next
+next_own p limit s (Write u row) lent = changed_own p (Write u row) s _ refl
+next_own p limit s (Delete u key) lent = changed_own p (Delete u key) s _ refl
+next_own p limit s (Copy u c range) lent = changed_own p (Copy u c range) s _ refl
+next_own p limit s (Ask u q) lent = remembered_own p s u q (look_up p s u q)
 
 pub only_writers : OnlyWriters
-only_writers p limit s call = elim (cases_Bool (accepted (response p limit s call))) [
-  | inl e ↦ rw e (next_own p s call.request)
+only_writers p limit s call = elim (cases_Bool (is_accepted (response p limit s call))) [
+  | inl e ↦ rw e (next_own p limit s call.request call.lent)
   | inr e ↦ rw e (unchanged_own p call.request s)
 ]
 
@@ -117,24 +117,25 @@ record Agree (s t : State) (c : ℕ) : Type 0 where
   version : s.version c ≡ t.version c
 
 -- a write or a delete depends on the compartment that it writes, and on nothing else
-plain_told : (p : Rules) (limit : ℕ) (s t : State) (r : Request) (lent : ℕ) → plain r ≡ true → Agree s t (p.writes (who r)) → respond p limit s r lent ≡ respond p limit t r lent
+plain_told : (p : Rules) (limit : ℕ) (s t : State) (r : Request) (lent : ℕ) → plain r ≡ true → Agree s t (p.writes (who r)) → (transition p limit s r lent).response ≡ (transition p limit t r lent).response
 plain_told p limit s t (Write u row) lent h a = rw (a.rows, a.version)
 plain_told p limit s t (Delete u key) lent h a = rw (a.rows, a.version)
 plain_told p limit s t (Copy u c range) lent h a = absurd cc
 plain_told p limit s t (Ask u q) lent h a = absurd cc
 
-plain_next : (p : Rules) (s t : State) (r : Request) → plain r ≡ true → Agree s t (p.writes (who r)) → Agree (next p s r) (next p t r) (p.writes (who r))
-plain_next p s t (Write u row) h a = record { rows = rw a.rows; version = rw a.version }
-plain_next p s t (Delete u key) h a = record { rows = rw a.rows; version = rw a.version }
-plain_next p s t (Copy u c range) h a = absurd cc
-plain_next p s t (Ask u q) h a = absurd cc
+plain_next : (p : Rules) (limit : ℕ) (s t : State) (r : Request) (lent : ℕ) → plain r ≡ true → Agree s t (p.writes (who r)) →
+    Agree (transition p limit s r lent).next (transition p limit t r lent).next (p.writes (who r))
+plain_next p limit s t (Write u row) lent h a = record { rows = rw a.rows; version = rw a.version }
+plain_next p limit s t (Delete u key) lent h a = record { rows = rw a.rows; version = rw a.version }
+plain_next p limit s t (Copy u c range) lent h a = absurd cc
+plain_next p limit s t (Ask u q) lent h a = absurd cc
 
 plain_step : (p : Rules) (limit : ℕ) (s t : State) (call : Call) → plain call.request ≡ true → Agree s t (p.writes (who call.request)) →
     Agree (step p limit s call) (step p limit t call) (p.writes (who call.request))
 plain_step p limit s t call h a =
     let e = plain_told p limit s t call.request call.lent h a in
-    elim (cases_Bool (accepted (response p limit t call))) [
-      | inl k ↦ rw (e, k) (plain_next p s t call.request h a)
+    elim (cases_Bool (is_accepted (response p limit t call))) [
+      | inl k ↦ rw (e, k) (plain_next p limit s t call.request call.lent h a)
       | inr k ↦ rw (e, k) a
     ]
 

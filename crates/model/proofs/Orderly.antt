@@ -5,7 +5,7 @@ use Rattle.std.proofs.lemmas.List.{length-map}
 use Rattle.std.proofs.ByRecursion.{All-take, All-map}
 use Rattle.std.proofs.lemmas.Bool.{cases_Bool, cases_eq, eq-eqb, ne_eqb, leb-true, ltb-true}
 use Rattle.rows.specs.declared.Row.{Row}
-use Rattle.rows.specs.Rows.{Rising, without, has_key, rows_in}
+use Rattle.rows.specs.Rows.{SortedByKey, without, has_key, rows_in}
 use Rattle.rows.proofs.Orders.{up_put, up_without, rising_put_all, length_without}
 use Rattle.policy.specs.Rules.{Rules, sees}
 use Rattle.query.specs.declared.Query.{Query}
@@ -13,7 +13,7 @@ use Rattle.query.specs.declared.Query.TheVariants.{Rows, Total, Shared}
 use Rattle.query.specs.Answers.{answer}
 use Rattle.request.specs.declared.Request.{Request}
 use Rattle.request.specs.declared.Request.TheVariants.{Write, Delete, Copy, Query as Ask}
-use Rattle.model.specs.Model.{State, Call, Kept, empty, there, changing, filling, may_copy, look_up, keep, respond, response, accepted, changed, entry, remembered, next, step, run}
+use Rattle.model.specs.Model.{State, Call, CachedAnswer, empty, is_user, respond_change, respond_fill, may_copy, look_up, keep, transition, response, is_accepted, set_rows, entry, remember, step, run}
 use Rattle.model.specs.Order.{InOrder, Order, OfKind, WellKept, Caches}
 use Rattle.model.proofs.Alike.{passed}
 
@@ -33,7 +33,7 @@ keep_kind p s u (Total range) = (_, _, refl)
 keep_kind p s u (Shared a b range) = elim (cases_Bool (sees p u a && sees p u b)) [ inl e ↦ rw e | inr e ↦ rw e ]
 
 module _ (p : Rules) (limit : ℕ) (s : State) (o : Orderly p limit s) where
-  changed_orderly : (c : ℕ) (new : List Row) → Rising new → length new ≤ p.capacity c → accepted (changing limit s c) ≡ true → Orderly p limit (changed s c new)
+  changed_orderly : (c : ℕ) (new : List Row) → SortedByKey new → length new ≤ p.capacity c → is_accepted (respond_change limit s c) ≡ true → Orderly p limit (set_rows s c new)
   changed_orderly c new r l h =
       let v = ltb-true (suc (s.version c)) limit (passed (ltb (suc (s.version c)) limit) _ _ h refl) in
       record {
@@ -45,7 +45,7 @@ module _ (p : Rules) (limit : ℕ) (s : State) (o : Orderly p limit s) where
       }
 
   -- new rows that came in are few enough, and the version could rise
-  filled_orderly : (c : ℕ) (new : List Row) → Rising new → accepted (filling p limit s c new) ≡ true → Orderly p limit (changed s c new)
+  filled_orderly : (c : ℕ) (new : List Row) → SortedByKey new → is_accepted (respond_fill p limit s c new) ≡ true → Orderly p limit (set_rows s c new)
   filled_orderly c new r h =
       let t = passed (leb (length new) (p.capacity c)) _ _ h refl in
       changed_orderly c new r (leb-true (length new) (p.capacity c) t) (rw t at h)
@@ -63,7 +63,7 @@ module _ (p : Rules) (limit : ℕ) (s : State) (o : Orderly p limit s) where
     kind = keep_kind p s u q;
   }
 
-  remembered_orderly : (u : ℕ) (q : Query) (k : Option Kept) → Orderly p limit (remembered p s u q k)
+  remembered_orderly : (u : ℕ) (q : Query) (k : Option CachedAnswer) → Orderly p limit (remember p s u q k)
   remembered_orderly u q (Some kept) = o
   remembered_orderly u q None = record {
     compartments = o.compartments;
@@ -76,14 +76,14 @@ module _ (p : Rules) (limit : ℕ) (s : State) (o : Orderly p limit s) where
     ];
   }
 
-  next_orderly : (r : Request) (lent : ℕ) → accepted (respond p limit s r lent) ≡ true → Orderly p limit (next p s r)
+  next_orderly : (r : Request) (lent : ℕ) → is_accepted (transition p limit s r lent).response ≡ true → Orderly p limit (transition p limit s r lent).next
   next_orderly (Write u row) lent h =
-      let t = passed (there p u) _ _ h refl in
+      let t = passed (is_user p u) _ _ h refl in
       let c = p.writes u in
       filled_orderly c _ (up_put 0 row (s.rows c) (omega arith) (o.compartments c).rising) (rw t at h)
   next_orderly (Delete u key) lent h =
       let c = p.writes u in
-      let g = rw (passed (there p u) _ _ h refl) at h in
+      let g = rw (passed (is_user p u) _ _ h refl) at h in
       let t = passed (has_key key (s.rows c)) _ _ g refl in
       changed_orderly c _ (up_without 0 key (s.rows c) (o.compartments c).rising) (shorter key c) (rw t at g)
   next_orderly (Copy u source range) lent h =
@@ -93,7 +93,7 @@ module _ (p : Rules) (limit : ℕ) (s : State) (o : Orderly p limit s) where
   next_orderly (Ask u q) lent h = remembered_orderly u q (look_up p s u q)
 
   pub step_orderly : (call : Call) → Orderly p limit (step p limit s call)
-  step_orderly call = elim (cases_Bool (accepted (response p limit s call))) [
+  step_orderly call = elim (cases_Bool (is_accepted (response p limit s call))) [
     | inl e ↦ rw e (next_orderly call.request call.lent e)
     | inr e ↦ rw e o
   ]

@@ -1,4 +1,5 @@
--- A worked example: three users, three compartments, and every response worked out by hand. And what goes wrong where somebody doesn't see where they write.
+-- A worked example: three users, three compartments, and every response worked out by hand. And what goes wrong where
+-- somebody doesn't see where they write.
 use Rattle.std.specs.Prelude.{◌≡◌, ℕ, zero, suc, true, false, List, [], ◌∷◌, map, take}
 use Rattle.rows.specs.declared.Row.{Row}
 use Rattle.rows.specs.declared.KeyRange.{KeyRange}
@@ -8,7 +9,7 @@ use Rattle.query.specs.declared.Query.TheVariants.{Total, Shared}
 use Rattle.query.specs.Answers.{total, list, not_seen}
 use Rattle.request.specs.declared.Request.{Request}
 use Rattle.request.specs.declared.Request.TheVariants.{Write, Delete, Copy, Query as Ask}
-use Rattle.model.specs.Model.{Call, lend, Response, done, refused, answered, empty, run, told, responses, purge}
+use Rattle.model.specs.Model.{Call, lend, Response, done, refused, answered, empty, run, responses_to, responses, purge}
 
 abbrev view_of : ℕ → List ℕ
 view_of zero = 0 ∷ 1 ∷ []
@@ -24,8 +25,8 @@ abbrev pub three : Rules
 three = record { users = 3; view = view_of; writes = λ user. user; capacity = capacity_of }
 
 -- the limit of versions, 2^40
-abbrev pub most : ℕ
-most = 1099511627776
+abbrev pub version_limit : ℕ
+version_limit = 1099511627776
 
 abbrev row : ℕ → ℕ → Row
 row key amount = record { key = key; amount = amount }
@@ -82,14 +83,17 @@ responses_of = map (λ l. l.response)
 pub record Worked : Type 0 where
   pub sound : Sound three
   -- from each compartment, to each
-  pub may_flow : map (λ a. map (flows three a) (0 ∷ 1 ∷ 2 ∷ [])) (0 ∷ 1 ∷ 2 ∷ []) ≡ (true ∷ false ∷ false ∷ []) ∷ (true ∷ true ∷ true ∷ []) ∷ (false ∷ false ∷ true ∷ []) ∷ []
-  pub all_told : responses three most empty (calls_of table) ≡ responses_of table
-  pub after_copy : (run three most empty (take 9 (calls_of table))).rows 0 ≡ row 5 10 ∷ row 6 80 ∷ row 7 1 ∷ []
+  pub may_flow :
+      map (λ a. map (flows three a) (0 ∷ 1 ∷ 2 ∷ [])) (0 ∷ 1 ∷ 2 ∷ [])
+      ≡ (true ∷ false ∷ false ∷ []) ∷ (true ∷ true ∷ true ∷ []) ∷ (false ∷ false ∷ true ∷ []) ∷ []
+  pub all_told : responses three version_limit empty (calls_of table) ≡ responses_of table
+  pub after_copy : (run three version_limit empty (take 9 (calls_of table))).rows 0 ≡ row 5 10 ∷ row 6 80 ∷ row 7 1 ∷ []
   pub purged : purge three 1 (calls_of table) ≡ calls_of own
-  pub told_whole : told three most 1 empty (calls_of table) ≡ responses_of own
-  pub told_purged : told three most 1 empty (calls_of own) ≡ responses_of own
+  pub told_whole : responses_to three version_limit 1 empty (calls_of table) ≡ responses_of own
+  pub told_purged : responses_to three version_limit 1 empty (calls_of own) ≡ responses_of own
 
--- User 0 sees nothing and writes where user 1 writes: whether there is room tells them of user 1, whose write purging leaves out.
+-- User 0 sees nothing and writes where user 1 writes: whether there is room tells them of user 1, whose write
+-- is left out when the trace is purged.
 abbrev blind_view : ℕ → List ℕ
 blind_view zero = []
 blind_view (suc n) = 0 ∷ []
@@ -100,7 +104,11 @@ blind = record { users = 2; view = blind_view; writes = λ user. 0; capacity = �
 abbrev pub leak : List Call
 leak = lend (Write 1 (row 5 1)) 0 ∷ lend (Write 0 (row 6 1)) 0 ∷ []
 
+-- what user 0 is told
+abbrev pub blind_responses : List Call → List Response
+blind_responses calls = responses_to blind version_limit 0 empty calls
+
 pub record SoundnessNeeded : Type 0 where
-  pub whole : told blind most 0 empty leak ≡ refused (NoRoom 1) ∷ []
-  pub purged : told blind most 0 empty (purge blind 0 leak) ≡ done ∷ []
-  pub differ : told blind most 0 empty (purge blind 0 leak) ≡ told blind most 0 empty leak → ⊥
+  pub whole : blind_responses leak ≡ refused (NoRoom 1) ∷ []
+  pub purged : blind_responses (purge blind 0 leak) ≡ done ∷ []
+  pub differ : blind_responses (purge blind 0 leak) ≡ blind_responses leak → ⊥

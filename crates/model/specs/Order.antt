@@ -2,15 +2,15 @@
 use Rattle.std.specs.Prelude.{◌≡◌, ℕ, ◌<◌, ◌≤◌, if◌then◌else◌, ◌&&◌, List, length}
 use Rattle.std.specs.List.{AllByRecursion}
 use Rattle.rows.specs.declared.Row.{Row}
-use Rattle.rows.specs.Rows.{Rising}
+use Rattle.rows.specs.Rows.{SortedByKey}
 use Rattle.policy.specs.Rules.{Rules, sees}
 use Rattle.query.specs.declared.Query.{Query}
 use Rattle.query.specs.declared.Query.TheVariants.{Rows, Total, Shared}
-use Rattle.model.specs.Model.{Call, Kept, kept_rows, kept_total, kept_shared, kept_not_seen, Entry, empty, run}
+use Rattle.model.specs.Model.{Call, CachedAnswer, kept_rows, kept_total, kept_shared, kept_not_seen, Entry, empty, run}
 
--- a compartment's rows rise by key and are no more than its capacity, and its version is below the limit
+-- a compartment's rows are sorted by key and no more than its capacity, and its version is below the limit
 pub record InOrder (capacity limit : ℕ) (rows : List Row) (version : ℕ) : Type 0 where
-  pub rising : Rising rows
+  pub rising : SortedByKey rows
   pub few : length rows ≤ capacity
   pub below : 0 < limit → version < limit
 
@@ -21,12 +21,13 @@ Order = (p : Rules) (limit : ℕ) (calls : List Call) (c : ℕ) →
     InOrder (p.capacity c) limit (s.rows c) (s.version c)
 
 -- what is kept of a query is of its kind
-abbrev pub OfKind : Rules → ℕ → Query → Kept → Type 0
+abbrev pub OfKind : Rules → ℕ → Query → CachedAnswer → Type 0
 OfKind p user (Rows range) kept = kept ≡ kept_rows
 OfKind p user (Total range) kept = (count : ℕ) × (sum : ℕ) × (kept ≡ kept_total count sum)
-OfKind p user (Shared a b range) kept = kept ≡ (if sees p user a && sees p user b then kept_shared else kept_not_seen)
+OfKind p user (Shared a b range) kept =
+    kept ≡ (if sees p user a && sees p user b then kept_shared else kept_not_seen)
 
--- an entry has a version for each compartment of the view, none of which reaches the limit
+-- an entry has a version for each compartment of its user's view, each below the limit, and what fits its query
 pub record WellKept (p : Rules) (limit user : ℕ) (e : Entry) : Type 0 where
   pub versions : length e.versions ≡ length (p.view user)
   pub below : 0 < limit → AllByRecursion (λ n. n < limit) e.versions

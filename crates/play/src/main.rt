@@ -1,13 +1,33 @@
-// Plays a trace from standard input: a line for each request, and one on standard error where it was refused.
+//! Plays a trace: prints a line for each request, and says on standard error if it is refused.
 #![tactic(auto)]
 
-use std::io::{self, Read};
+use command_line::{Program, Stop};
+use output::Output;
+use std::io::LineWriter;
 use std::process::ExitCode;
+use trace_player::MEMORY;
 
-// The two lines that read stand in four programs: std says nothing of which bytes stand on standard input, so a public function of
-// them would promise nothing.
-fn main(rt: HostRuntime) -> io::Result<ExitCode> {
-    let mut bytes = Vec::new(rt.alloc());
-    rt.stdin().read_to_end(&mut bytes)?;
-    trace_player::play(rt.alloc(), bytes.as_slice())?.tell(&mut rt.stdout(), &mut rt.stderr())
+const PLAY: Program = Program {
+    name: "play",
+    words: "[FILE]",
+    about: "Plays the trace in FILE, or on standard input: a line for each request.",
+};
+
+fn main(rt: HostRuntime) -> ExitCode {
+    let done = play(&rt);
+    // Where standard error cannot be written, the status alone tells.
+    let _ = PLAY.tell(&mut rt.stderr(), &done);
+    command_line::status(&done)
+}
+
+fn play(rt: &HostRuntime) -> Result<(), Stop> {
+    let words = PLAY.words(rt, &mut rt.stdout())?;
+    let bytes = command_line::read(rt, command_line::file_of(words.as_slice())?)?;
+    let mut memory = [0; MEMORY];
+    // A line goes out as soon as it is made.
+    let mut out = Output::new(LineWriter::new(rt.alloc(), rt.stdout())?);
+    match trace_player::play(&mut out, &mut memory, bytes.as_slice())? {
+        None => Ok(()),
+        Some(refusal) => Err(Stop::at(refusal, bytes.as_slice())),
+    }
 }

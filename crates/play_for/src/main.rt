@@ -1,35 +1,57 @@
-// Plays a trace from standard input purged for one user: their lines, and one on standard error where it was refused.
+//! Plays what is relevant to one user of a trace: prints their lines, and says on standard error if it is refused.
 #![tactic(auto)]
 
-use base::{COMPARTMENTS, USERS};
-use policy::CACHE;
-use std::env;
-use std::io::{self, Read};
+use command_line::{Program, Stop};
+use output::Output;
+use std::io::LineWriter;
 use std::process::ExitCode;
-use trace_items::MOST;
+use trace_player::MEMORY;
 
-// The most that a policy of a trace asks for: each compartment has two numbers before its rows, and each row has two.
-const MEMORY: usize = COMPARTMENTS * (2 + 2 * MOST as usize) + USERS * CACHE;
+const PLAY_FOR: Program = Program {
+    name: "play_for",
+    words: "USER [FILE] (USER from 0 to 255)",
+    about: "Plays what is relevant to USER of the trace in FILE, or on standard input.",
+};
 
-fn main(rt: HostRuntime) -> io::Result<ExitCode> {
-    let Some(user) = asked(&rt) else {
-        eprintln!(rt; "usage: play_for USER < TRACE (USER from 0 to 255)")?;
-        return Ok(ExitCode::FAILURE);
-    };
-    // The two lines that read stand in four programs, for the reason that stands in `play`.
-    let mut bytes = Vec::new(rt.alloc());
-    rt.stdin().read_to_end(&mut bytes)?;
-    let mut memory = [0; MEMORY];
-    let played = trace_player::play_for(rt.alloc(), &mut memory, user as usize, bytes.as_slice())?;
-    played.tell(&mut rt.stdout(), &mut rt.stderr())
+fn main(rt: HostRuntime) -> ExitCode {
+    let done = play_for(&rt);
+    // Where standard error cannot be written, the status alone tells.
+    let _ = PLAY_FOR.tell(&mut rt.stderr(), &done);
+    command_line::status(&done)
 }
 
-// The user that the one argument names, if it is a decimal number of a byte; the first word is the program's name.
-fn asked(rt: &HostRuntime) -> Option<u8> {
-    let mut words = env::args(rt).ok()?.skip(1);
-    let word = words.next()?;
-    if words.next().is_some() || word.as_str().starts_with("+") {
+fn play_for(rt: &HostRuntime) -> Result<(), Stop> {
+    let words = PLAY_FOR.words(rt, &mut rt.stdout())?;
+    let [user, file @ ..] = words.as_slice() else {
+        return Err(Stop::Usage);
+    };
+    let user = user_of(user.as_str()).ok_or(Stop::Usage)?;
+    let bytes = command_line::read(rt, command_line::file_of(file)?)?;
+    warn_of(rt, user, bytes.as_slice());
+    let mut memory = [0; MEMORY];
+    // A line goes out as soon as it is made.
+    let mut out = Output::new(LineWriter::new(rt.alloc(), rt.stdout())?);
+    match trace_player::play_for(&mut out, &mut memory, user, bytes.as_slice())? {
+        None => Ok(()),
+        Some(refusal) => Err(Stop::at(refusal, bytes.as_slice())),
+    }
+}
+
+// A decimal number of a byte; std's `parse` would take a plus sign too.
+fn user_of(word: &str) -> Option<usize> {
+    if word.starts_with("+") {
         return None;
     }
-    word.as_str().parse().ok()
+    let user: u8 = word.parse().ok()?;
+    Some(usize::from(user))
+}
+
+// A user whom the policy does not have is played for all the same: they may bring requests, which are refused.
+fn warn_of(rt: &HostRuntime, user: usize, bytes: &[u8]) {
+    let Ok(opening) = trace_bytes::open(bytes, trace_bytes::CAPACITY) else {
+        return;
+    };
+    if !opening.policy.has_user(user) {
+        let _ = eprintln!(rt; "the policy has no user {user}");
+    }
 }

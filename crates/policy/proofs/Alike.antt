@@ -2,11 +2,11 @@
 use Rattle.std.proofs.Common.{◌≡◌, ℕ, ◌<◌, Bool, ◌&&◌, ltb, refl, ap, ◌∙◌, inl, inr}
 use Rattle.std.proofs.lemmas.Bool.{cases_Bool, ltb-true}
 use Rattle.policy.specs.Access.{may_copy}
-use Rattle.policy.specs.Laws.{Same}
+use Rattle.policy.specs.Laws.{SameRules}
 use Rattle.policy.specs.Rules.{Rules, all_see, flows}
 use Rattle.policy.proofs.Steps.{all_see_same}
 
-module _ (p q : Rules) (n : ℕ) (same : Same p q n) where
+module _ (p q : Rules) (n : ℕ) (same : SameRules p q n) where
   -- what holds of users who are there holds of both
   among_users : (u : ℕ) (x y : Bool) → (u < p.users → x ≡ y) → (ltb u p.users && x) ≡ (ltb u q.users && y)
   among_users u x y there =

@@ -1,10 +1,10 @@
 -- The first place at which a test holds: one place on; and the two counts of a policy before all others.
-use Rattle.std.proofs.Common.{◌≡◌, ℕ, zero, suc, ◌+◌, ◌-◌, ◌%◌, ◌<◌, ◌≤◌, Bool, true, false, cond, not, ◌&&◌, leb, List, [], ◌∷◌, length, get_or, Some, None, sym, refl, ◌∙◌, inl, inr, arith}
-use Rattle.std.proofs.lemmas.Bool.{cond_both, cond-true, cond-false, cases_Bool, cases_eq, or_parts, and_from, not-false, leb-false}
+use Rattle.std.proofs.Common.{◌≡◌, ℕ, zero, suc, ◌+◌, ◌-◌, ◌%◌, ◌<◌, ◌≤◌, Bool, true, false, cond, not, ◌&&◌, leb, ltb, List, [], ◌∷◌, length, get_or, Some, None, sym, refl, ◌∙◌, inl, inr, arith}
+use Rattle.std.proofs.lemmas.Bool.{cond_both, cond-true, cond-false, cases_Bool, cases_eq, or_parts, and_from, and_parts, not-false, ltb-true, leb-false}
 use Rattle.std.proofs.lemmas.Bool.Decides.{nat_tests}
 use Rattle.std.proofs.lemmas.Option.{none-some, same_Some}
 use Rattle.std.specs.List.{position_from}
-use Rattle.policy.specs.Numbers.{first, places, at_fault, within, between, users_in, compartments_in, user_at, Fit}
+use Rattle.policy.specs.Numbers.{first, places, at_fault, count_at, within, between, users_in, compartments_in, user_at, Fit}
 
 pub first_more : (f : ℕ → Bool) (i n m : ℕ) → n ≡ suc m → first f i n ≡ cond (f i) (Some i) (first f (i + 1) m)
 first_more f i n m e = rw e refl
@@ -35,6 +35,45 @@ first_none f i (suc n) e k low high =
         | inr s ↦ first_none f (i + 1) n (sym (cond-false (f i) (Some i) (first f (i + 1) n) t) ∙ e) k (omega arith) (omega arith)
       ]
     ]
+
+-- a count that was found is there, and within its bounds
+count_found : (xs : List ℕ) (place high n : ℕ) → Some n ≡ count_at xs place high
+    → (place < length xs) × (between 1 high n ≡ true) × (n ≡ get_or xs place 0)
+count_found xs place high n e =
+    let here = ltb place (length xs) in
+    let fits = between 1 high (get_or xs place 0) in
+    elim (cases_Bool (here && fits)) [
+      | inl t ↦
+          let found : Some n ≡ Some (get_or xs place 0) = rw t at e in
+          let same : n ≡ get_or xs place 0 = same_Some _ _ found in
+          let parts = and_parts here fits t in
+          (ltb-true place (length xs) parts.0, rw same parts.1, same)
+      | inr f ↦ let none : Some n ≡ None = rw f at e in absurd (none-some n (sym none))
+    ]
+
+-- the two counts, and then the rest, in one search from the first place
+module _ (most : ℕ) (xs : List ℕ) (users compartments : ℕ) (u : Some users ≡ count_at xs 0 32)
+    (n : Some compartments ≡ count_at xs 1 16) where
+  first_is : users ≡ users_in xs
+  first_is = (count_found xs 0 32 users u).2
+
+  second_is : compartments ≡ compartments_in xs
+  second_is = (count_found xs 1 16 compartments n).2
+
+  pub counts_are : (users ≡ users_in xs) × (compartments ≡ compartments_in xs)
+  counts_are = (first_is, second_is)
+
+  pub after_counts : (at : ℕ) → at ≡ user_at users → first (at_fault most xs) 2 (at + compartments - 2) ≡ first (at_fault most xs) 0 (places xs)
+  after_counts at behind =
+      let a = count_found xs 0 32 users u in
+      let b = count_found xs 1 16 compartments n in
+      let f = at_fault most xs in
+      let us = first_is in
+      let cs = second_is in
+      let all : places xs ≡ at + compartments = grind (arith, nat_tests) in
+      let one : f 0 ≡ false = grind (arith, nat_tests) in
+      let two : f 1 ≡ false = grind (arith, nat_tests) in
+      sym (first_on f 0 (places xs) (places xs - 1) (omega arith) one ∙ first_on f 1 (places xs - 1) (at + compartments - 2) (omega arith) two)
 
 -- what no fault says: everything that `Fit` asks for
 module _ (most : ℕ) (xs : List ℕ) (low : most ≤ 4096) (none : first (at_fault most xs) 0 (places xs) ≡ None) where

@@ -5,3 +5,5 @@ pub mod Reading
 pub mod Proved
 pub mod Alike
 pub mod Made
+mod Filled
+mod Deciding

@@ -1,16 +1,16 @@
 -- Proofs of the laws of policies.
 use Rattle.std.proofs.Common.{◌≡◌, ℕ, zero, suc, ◌+◌, ◌<◌, ◌≤◌, ◌⊎◌, Bool, true, false, not, ◌&&◌, ◌||◌, eqb, ltb, List, [], ◌∷◌, length, get_or, take, drop, Some, None, Decides, Option, sym, refl, ◌∙◌, inl, inr, le_of_suc-le-suc, not-suc-le-zero, arith}
 use Rattle.std.proofs.lemmas.List.{get_or-take, get_or-drop, length-take-le, length-map}
-use Rattle.std.proofs.lemmas.Bool.{and_parts, cases_Bool, ltb-true, lt-ltb, or_parts, or_cases, eqb-true, eqb-false, not-true, both_ways}
+use Rattle.std.proofs.lemmas.Bool.{and_parts, cases_Bool, ltb-true, or_parts, or_cases, eqb-true, eqb-false, not-true, both_ways}
 use Rattle.std.proofs.lemmas.Bool.Decides.{Decides-below_and}
 use Rattle.std.proofs.lemmas.Option.{none-some}
 use Rattle.std.specs.Option.{option_map}
-use Rattle.policy.specs.Access.{rules_of, capacities_of, contract_at, place_at, place_in, Inside}
+use Rattle.policy.specs.Access.{users_of, compartments_of, contracts_of, rules_of, capacities_of, contract_at, place_in, Inside}
 use Rattle.policy.specs.Layout.{size, starts_from, end_from}
-use Rattle.policy.specs.Laws.{JudgedLowest, PoliciesValid, ReadsRules, FlowsBothWays, FlowsDown, CompartmentsApart}
+use Rattle.policy.specs.Laws.{PoliciesRefusedLowest, PoliciesValid, ReadsRules, FlowsBothWays, FlowsDown, CompartmentsApart}
 use Rattle.policy.specs.Numbers.{first, at_fault, places, bad_view, users_in, compartments_in, user_at, or_else}
 use Rattle.policy.specs.Rules.{has, sees, all_see}
-use Rattle.policy.specs.Views.{view_of, distinct_below, valid, nobody}
+use Rattle.policy.specs.Views.{view_of, writes_of, distinct_below, valid, nobody}
 use Rattle.policy.specs.declared.Policy.{Policy}
 use Rattle.base.specs.declared.refusal.Refusal.{Refusal}
 use Rattle.base.specs.declared.refusal.Refusal.TheVariants.{OutOfBounds, BadView}
@@ -40,7 +40,7 @@ by_either None None r e = cc
 by_either None (Some u) r e = inr (u, cc)
 by_either (Some p) v r e = inl (p, cc)
 
-pub judged_lowest : JudgedLowest
+pub judged_lowest : PoliciesRefusedLowest
 judged_lowest most xs =
     let f = first (at_fault most xs) 0 (places xs) in
     let v = first (bad_view xs) 0 (users_in xs) in (
@@ -174,7 +174,6 @@ pub place_inside : (p : Policy) (c : ℕ) → c < p.compartments → Inside p (p
 place_inside p c h = omega (arith, (compartments_apart p c h).0)
 
 -- where a contract's user writes there is a compartment
-pub written_found : (p : Policy) (u : ℕ) (k : Contract) → Some k ≡ contract_at p u → (u < p.users) × (k ≡ get_or (take p.users p.contracts) u nobody) × (place_at p k.writes ≡ Some (place_in p k.writes))
-written_found p u k e =
-    let found = contract_found p u k e in
-    let there : k.writes < p.compartments = rw found.1 (written_there p u found.0) in (found.0, found.1, rw (lt-ltb k.writes p.compartments there) refl)
+pub written_found : (p : Policy) (u : ℕ) (k : Contract) → Some k ≡ contract_at p u
+    → (u < users_of p) × (k ≡ get_or (contracts_of p) u nobody) × (writes_of k < compartments_of p)
+written_found p u k e = let found = contract_found p u k e in (found.0, found.1, rw found.1 (written_there p u found.0))

@@ -5,7 +5,7 @@ use Rattle.std.specs.Prelude.{ℕ, ◌+◌, ◌*◌, List, [], ◌∷◌}
 abbrev pub size : ℕ → ℕ
 size capacity = 2 + 2 * capacity
 
--- where each compartment begins, one behind the other
+-- where each compartment begins, consecutively
 abbrev pub starts_from : ℕ → List ℕ → List ℕ
 starts_from at [] = []
 starts_from at (c ∷ cs) = at ∷ starts_from (at + size c) cs

@@ -5,5 +5,6 @@ pub mod Numbers
 pub mod Layout
 pub mod Policies
 pub mod Read
+pub mod FromViews
 pub mod Access
 pub mod Laws

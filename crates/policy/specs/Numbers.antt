@@ -1,6 +1,7 @@
--- A policy in numbers: how many users and compartments there are; for each user eighteen numbers, how many compartments they
--- see, sixteen places for them, and the one in which they write; and for each compartment its capacity.
-use Rattle.std.specs.Prelude.{ℕ, ◌+◌, ◌-◌, ◌*◌, ◌%◌, ◌<◌, ◌≤◌, Bool, true, if◌then◌else◌, not, ◌&&◌, ◌||◌, List, length, take, drop, Option, ◌==◌, nat_le, slice_index}
+-- A policy in numbers: how many users and compartments there are; for each user eighteen numbers, how many
+-- compartments they see, sixteen places for them, and the one in which they write; and for each compartment its
+-- capacity.
+use Rattle.std.specs.Prelude.{ℕ, ◌+◌, ◌-◌, ◌*◌, ◌%◌, ◌<◌, ◌≤◌, Bool, true, if◌then◌else◌, not, ◌&&◌, ◌||◌, List, length, take, drop, Some, None, Option, ◌==◌, nat_le, nat_lt, slice_index}
 use Rattle.policy.specs.Rules.{Rules}
 use Rattle.policy.specs.Views.{stands}
 use Rattle.base.specs.declared.refusal.Refusal.{Refusal}
@@ -15,7 +16,7 @@ users_in xs = slice_index xs 0
 abbrev pub compartments_in : List ℕ → ℕ
 compartments_in xs = slice_index xs 1
 
--- where a user's eighteen numbers begin, and behind the last user the capacities
+-- where a user's eighteen numbers begin, and after the last user's the capacities
 abbrev pub user_at : ℕ → ℕ
 user_at u = 2 + 18 * u
 
@@ -26,10 +27,20 @@ abbrev pub writes_in : List ℕ → ℕ → ℕ
 writes_in xs u = slice_index xs (user_at u + 17)
 
 abbrev pub rules_in : List ℕ → Rules
-rules_in xs = record { users = users_in xs; view = view_in xs; writes = writes_in xs; capacity = λ c. slice_index xs (user_at (users_in xs) + c) }
+rules_in xs = record {
+  users = users_in xs;
+  view = view_in xs;
+  writes = writes_in xs;
+  capacity = λ c. slice_index xs (user_at (users_in xs) + c);
+}
 
 abbrev pub between : ℕ → ℕ → ℕ → Bool
 between low high n = nat_le low n && nat_le n high
+
+-- a count at a place, if there is one from 1 to the highest
+abbrev pub count_at : List ℕ → ℕ → ℕ → Option ℕ
+count_at xs place high =
+    if nat_lt place (length xs) && between 1 high (slice_index xs place) then Some (slice_index xs place) else None
 
 -- the bounds of the counts and of the capacities, by place; no other number has any
 abbrev pub within : ℕ → ℕ → ℕ → ℕ → Bool
@@ -58,15 +69,15 @@ abbrev pub bad_view : List ℕ → ℕ → Bool
 bad_view xs u = not (stands (compartments_in xs) (view_in xs u) (writes_in xs u))
 
 -- why numbers are refused: the lowest place at fault; or the lowest user with a bad view
-abbrev pub fault : ℕ → List ℕ → Option Refusal
-fault most xs = option_map (λ place. OutOfBounds place) (first (at_fault most xs) 0 (places xs))
+abbrev pub place_fault : ℕ → List ℕ → Option Refusal
+place_fault most xs = option_map (λ place. OutOfBounds place) (first (at_fault most xs) 0 (places xs))
 
-abbrev pub bad : List ℕ → Option Refusal
-bad xs = option_map (λ user. BadView user) (first (bad_view xs) 0 (users_in xs))
+abbrev pub view_fault : List ℕ → Option Refusal
+view_fault xs = option_map (λ user. BadView user) (first (bad_view xs) 0 (users_in xs))
 
 -- why a policy is refused, if it is
-abbrev pub judged : ℕ → List ℕ → Option Refusal
-judged most xs = or_else (fault most xs) (bad xs)
+abbrev pub policy_fault : ℕ → List ℕ → Option Refusal
+policy_fault most xs = or_else (place_fault most xs) (view_fault xs)
 
 -- numbers without a fault: as many as the counts announce, and all counts within their bounds
 pub record Fit (xs : List ℕ) : Type 0 where

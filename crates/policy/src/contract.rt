@@ -1,13 +1,18 @@
 // What one user may do: the compartments that they see, in their own order, and the one in which they write.
-ghost use Rattle.std.specs.Prelude.{◌≤◌, length};
+ghost use Rattle.std.specs.Prelude.{◌≡◌, ◌≤◌, length};
 
-use super::{ArrayList, COMPARTMENTS};
+use base::COMPARTMENTS;
 
+/// What one user may do, laid out as C has it: the first `count` compartments of `view` are the ones that the user
+/// sees.
+#[repr(C)]
 #[derive(Clone, Copy)]
 pub struct Contract {
-    view: ArrayList<u64, COMPARTMENTS>,
+    count: usize,
+    view: [u64; COMPARTMENTS],
     writes: u64,
-    ghost few: { length view.items ≤ 16 },
+    ghost few: { count ≤ 16 },
+    ghost long: { length view ≡ 16 },
 }
 
 mod judge;

@@ -1,21 +1,21 @@
 // Judging the numbers of a policy: the lowest place at fault, and the lowest user with a bad view.
-ghost use Rattle.std.specs.Prelude.{◌≡◌, ◌-◌, ◌≤◌, not, ◌&&◌, length, position, IfOk, nat_lt, slice_index};
-ghost use Rattle.policy.specs.Numbers.{users_in, between, within, at_fault, places, first, bad};
+ghost use Rattle.std.specs.Prelude.{◌≡◌, ◌-◌, ◌≤◌, not, length, position, IfOk};
+ghost use Rattle.policy.specs.Numbers.{users_in, count_at, within, at_fault, first, view_fault};
 ghost use Rattle.policy.specs.Read.{Stand, why};
 ghost use Rattle.policy.specs.Views.{valid};
 
-use super::{Contract, Refusal};
+use super::Contract;
 use crate::numbers::Numbers;
-use crate::sizes::{COMPARTMENTS, COUNTS, USER, USERS, user_at};
+use crate::sizes::{COUNTS, USER, user_at};
+use base::{COMPARTMENTS, Refusal, USERS};
 
 // Hands on the contracts of all users, or leaves with the lowest user whose view may not stand.
 pub(crate) fn contracts(numbers: &Numbers) -> Result<[Contract; USERS], Refusal>
-    ensures refused { why result ≡ bad numbers.now.all.now }
+    ensures refused { why result ≡ view_fault numbers.now.all.now }
     ensures stand { IfOk result (λ cs. Stand numbers.now.all.now cs) }
 {
     let contracts = Contract::of_users(numbers);
-    // Here alone a user becomes a refusal: a `map_or` with `Ok` and `Err` would say no more than this match.
-    match bad_view(&contracts[..numbers.users()], numbers.compartments()) {
+    match bad_view(&contracts[..numbers.users], numbers.compartments as u64) {
         Some(user) => Err(Refusal::BadView { user }),
         None => Ok(contracts),
     }
@@ -30,63 +30,43 @@ fn bad_view(contracts: &[Contract], compartments: u64) -> Option<usize>
         .position(|contract| !contract.is_valid(compartments))
 }
 
-// The lowest place at which a number is missing or out of bounds: the two counts, then all that they announce.
-pub(crate) fn lowest_fault(numbers: &[u64], most: u64) -> Option<usize>
-    ensures { result ≡ first (at_fault most numbers.now) 0 (places numbers.now) }
+// The number at a place, if there is one from 1 to `high`.
+pub(crate) fn count_at(numbers: &[u64], place: usize, high: usize) -> Option<usize>
+    ensures { result ≡ count_at numbers.now place high }
 {
-    if !has_count(numbers, 0, USERS as u64) {
-        return Some(0);
-    }
-    if !has_count(numbers, 1, COMPARTMENTS as u64) {
-        return Some(1);
-    }
-    let users = numbers[0] as usize;
-    let end = user_at(users) + numbers[1] as usize;
-    Counted {
-        numbers,
-        users,
-        most,
-    }
-    .lowest_fault(end)
+    let n = *numbers.get(place)?;
+    (1..=high as u64).contains(&n).then_some(n as usize)
 }
 
-// A number stands at the place, from 1 to `high`.
-fn has_count(numbers: &[u64], place: usize, high: u64) -> bool
-    ensures { result ≡ (nat_lt place (length numbers.now) && between 1 high (slice_index numbers.now place)) }
-{
-    numbers.get(place).is_some_and(|n| (1..=high).contains(n))
-}
-
-// Numbers of which the users are counted, and the highest capacity that there may be.
+// Numbers whose two counts are within bounds, and the highest capacity that there may be.
 #[derive(Clone, Copy)]
-struct Counted<'a> {
-    numbers: &'a [u64],
-    users: usize,
-    most: u64,
-    ghost are: { users ≡ users_in numbers.now },
+pub(crate) struct Counted<'a> {
+    pub(crate) all: &'a [u64],
+    pub(crate) users: usize,
+    pub(crate) most: u64,
+    ghost are: { users ≡ users_in all.now },
     ghost few: { users ≤ 32 },
 }
 
 impl Counted<'_> {
-    // The lowest place at fault behind the counts.
-    fn lowest_fault(&self, end: usize) -> Option<usize>
-        ensures { result ≡ first (at_fault self.now.most self.now.numbers.now) 2 (end - 2) }
+    // The lowest place after the counts at which a number is missing or out of bounds.
+    pub(crate) fn lowest_fault(&self, end: usize) -> Option<usize>
+        ensures { result ≡ first (at_fault self.now.most self.now.all.now) 2 (end - 2) }
     {
         (COUNTS..end).find(|place| self.is_fault(*place))
     }
 
     fn is_fault(&self, place: usize) -> bool
-        ensures { result ≡ at_fault self.now.most self.now.numbers.now place }
+        ensures { result ≡ at_fault self.now.most self.now.all.now place }
     {
-        // As `is_none_or` it was tried: its closure would need a clause of its own.
-        match self.numbers.get(place) {
+        match self.all.get(place) {
             Some(n) => !self.is_within(place, *n),
             None => true,
         }
     }
 
-    // The bounds of the counts and of the capacities; no other number has any. Of all places, as `within` has them, though the
-    // search begins behind the first two.
+    // The bounds of the counts and of the capacities; no other number has any. The two counts in front are among
+    // them, so that this is asked of any place.
     fn is_within(&self, place: usize, n: u64) -> bool
         ensures { result ≡ within self.now.most self.now.users place n }
     {

@@ -1,4 +1,6 @@
-// Who sees what, who writes where, and where rows may flow: a policy is read and judged once.
+//! Who sees what, who writes where, and where rows may flow: a policy is read and judged once.
+//!
+//! `Policy::read` takes a policy in numbers, `Policy::from_views` the same as views, places to write and capacities.
 #![tactic(auto)]
 
 ghost use Rattle.std.specs.Prelude.{◌≡◌, ◌≤◌, true, length, take};
@@ -14,18 +16,21 @@ mod place;
 mod read;
 mod sizes;
 mod tables;
+mod views;
 
-pub use base::{ArrayList, Refusal};
+use base::{COMPARTMENTS, USERS};
 pub use contract::Contract;
 pub use place::{Place, VERSION_LIMIT, Written};
-pub use sizes::{CACHE, CAPACITY, COMPARTMENTS, COUNTS, USER, USERS};
+pub use sizes::{CACHE, CAPACITY, COUNTS, USER};
+pub use views::View;
 
-// A policy that was judged, with all that a request asks of it worked out.
+/// A policy that was judged, with all that a request asks of it worked out.
+#[repr(C)]
 #[derive(Clone, Copy)]
 pub struct Policy {
-    // The first `users` contracts and the first `compartments` places count. They are no `ArrayList`s: this was tried, with the
-    // counts, which the promises of the crates above name, as ghost fields. It needs a Model, and the law that every policy is
-    // valid, which is over policies as values, then has none of the facts of the fields.
+    // The first `users` contracts and the first `compartments` places count. They are plain arrays with a count
+    // beside them, as C has them, and no `ArrayList`s: that every policy is valid is a law over policies as values,
+    // from the facts of these fields.
     users: usize,
     compartments: usize,
     contracts: [Contract; USERS],

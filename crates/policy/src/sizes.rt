@@ -1,24 +1,22 @@
-// How many numbers the users and compartments of a policy take, and the largest capacity.
+// How many numbers the users and compartments of a policy take, and the largest capacity. Contracts say these as
+// numbers, so that a clause is read by itself.
 ghost use Rattle.std.specs.Prelude.{◌≡◌, ◌≤◌};
 ghost use Rattle.policy.specs.Numbers.{user_at};
 
-// Contracts say these as numbers, so that a clause is read without looking them up.
-
-pub use base::{COMPARTMENTS, USERS};
-
-// The counts of users and of compartments, the first numbers of a policy.
+/// The counts of users and of compartments, the first numbers of a policy.
 pub const COUNTS: usize = 2;
 
-// The numbers of a user behind them: how many compartments they see, sixteen places for these, and the one in which they write.
+/// The numbers of a user, after the counts: how many compartments they see, sixteen places for these, and the one in
+/// which they write.
 pub const USER: usize = 18;
 
-// The rows of a compartment, at most.
+/// The most rows that a compartment may hold.
 pub const CAPACITY: u64 = 4096;
 
-// The numbers of a user's cache in memory.
+/// How many numbers a user's cache takes in memory.
 pub const CACHE: usize = 192;
 
-// Where a user's numbers begin among those of a policy; behind the last user the capacities.
+// Where a user's numbers begin among those of a policy; after the last user's follow the capacities.
 pub(crate) fn user_at(user: usize) -> usize
     requires { user ≤ 32 }
     ensures { result ≡ user_at user }

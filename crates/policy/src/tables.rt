@@ -4,10 +4,11 @@ ghost use Rattle.std.specs.List.{list_all};
 ghost use Rattle.policy.specs.Layout.{starts_from, end_from};
 ghost use Rattle.policy.specs.Policies.{flow_row, flow_table, lets, all_within, capacities_in, starts_in};
 
-use super::{COMPARTMENTS, Contract, Place};
+use super::{Contract, Place};
+use base::COMPARTMENTS;
 use std::array::from_fn;
 
-// Writes where compartments of these capacities lie, one behind the other, and returns where the last ends.
+// Writes where compartments of these capacities lie, consecutively, and returns where the last ends.
 pub(crate) fn place(places: &mut [Place], capacities: &[u64]) -> usize
     requires fits { length capacities.now ≤ length places.old }
     requires few { length capacities.now ≤ 16 }

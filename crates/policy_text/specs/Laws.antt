@@ -1,4 +1,4 @@
--- What an overview says of flows, in the words of its subject.
+-- What is shown of flows.
 use Rattle.std.specs.Prelude.{◌≡◌, ℕ, ◌<◌, true, ◌≢◌}
 use Rattle.policy.specs.Rules.{Rules, has, sees}
 use Rattle.policy_text.specs.Shown.{flows_shown}
@@ -8,7 +8,7 @@ use Rattle.policy_text.specs.Forms.{table, graph}
 abbrev pub SeenWith : Rules → ℕ → ℕ → Type 0
 SeenWith p a b = (u : ℕ) → u < p.users → sees p u b ≡ true → sees p u a ≡ true
 
--- of n compartments, b is listed behind a exactly if it is there and everybody who sees b sees a; and an edge leads
+-- of n compartments, b is listed after a exactly if it is there and everybody who sees b sees a; and an edge leads
 -- from a to b exactly if they are two besides
 abbrev pub FlowsShown : Type 0
 FlowsShown = (p : Rules) (n a b : ℕ) →

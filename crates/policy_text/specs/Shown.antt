@@ -1,5 +1,5 @@
--- What an overview shows, in both forms: first the users, then the compartments.
-use Rattle.std.specs.Prelude.{ℕ, Bool, ◌&&◌, List, ◌++◌, filter, codes}
+-- What is shown of a policy, in both forms: first the users, then the compartments.
+use Rattle.std.specs.Prelude.{ℕ, Bool, if◌then◌else◌, ◌&&◌, List, [], ◌++◌, filter}
 use Rattle.policy.specs.Rules.{Rules, flows}
 use Rattle.std.specs.List.{flat_map, range_with_len}
 use Rattle.policy_text.specs.Forms.{Shape, table, graph}
@@ -9,7 +9,7 @@ abbrev pub seen_bytes : Shape → ℕ → List ℕ → List ℕ
 seen_bytes shape user view = flat_map (shape.seen user) view
 
 abbrev pub user_bytes : Shape → ℕ → List ℕ → ℕ → List ℕ
-user_bytes shape user view writes = shape.user user writes ++ seen_bytes shape user view ++ shape.user_end writes
+user_bytes shape user view writes = shape.user user writes ++ (seen_bytes shape user view ++ shape.user_end writes)
 
 abbrev pub user_of : Shape → Rules → ℕ → List ℕ
 user_of shape p user = user_bytes shape user (p.view user) (p.writes user)
@@ -20,6 +20,10 @@ users_bytes shape p = flat_map (user_of shape p) (range_with_len 0 p.users)
 abbrev pub shows_flow : Shape → Rules → ℕ → ℕ → Bool
 shows_flow shape p from to = shape.shows from to && flows p from to
 
+-- a flow, where the form shows it and rows may flow
+abbrev pub flow_choice : Shape → Rules → ℕ → ℕ → List ℕ
+flow_choice shape p from to = if shows_flow shape p from to then shape.flow from to else []
+
 -- of n compartments those to which a form shows that rows may flow
 abbrev pub flows_shown : Shape → Rules → ℕ → ℕ → List ℕ
 flows_shown shape p n from = filter (shows_flow shape p from) (range_with_len 0 n)
@@ -28,7 +32,8 @@ abbrev pub flow_bytes : Shape → Rules → ℕ → ℕ → List ℕ
 flow_bytes shape p n from = flat_map (shape.flow from) (flows_shown shape p n from)
 
 abbrev pub compartment_bytes : Shape → Rules → ℕ → ℕ → ℕ → List ℕ
-compartment_bytes shape p n c capacity = shape.compartment c capacity ++ flow_bytes shape p n c ++ shape.compartment_end
+compartment_bytes shape p n c capacity =
+    shape.compartment c capacity ++ (flow_bytes shape p n c ++ shape.compartment_end)
 
 abbrev pub compartment_of : Shape → Rules → ℕ → ℕ → List ℕ
 compartment_of shape p n c = compartment_bytes shape p n c (p.capacity c)
@@ -36,9 +41,12 @@ compartment_of shape p n c = compartment_bytes shape p n c (p.capacity c)
 abbrev pub compartments_bytes : Shape → Rules → ℕ → List ℕ
 compartments_bytes shape p n = flat_map (compartment_of shape p n) (range_with_len 0 n)
 
--- of n compartments
+-- a policy of n compartments
+abbrev pub policy_bytes : Shape → Rules → ℕ → List ℕ
+policy_bytes shape p n = shape.first ++ (users_bytes shape p ++ (compartments_bytes shape p n ++ shape.last))
+
 abbrev pub table_bytes : Rules → ℕ → List ℕ
-table_bytes p n = users_bytes table p ++ compartments_bytes table p n
+table_bytes = policy_bytes table
 
 abbrev pub graph_bytes : Rules → ℕ → List ℕ
-graph_bytes p n = codes "digraph policy {\n" ++ users_bytes graph p ++ compartments_bytes graph p n ++ codes "}\n"
+graph_bytes = policy_bytes graph

@@ -1,43 +1,74 @@
-// What an overview says of the compartments.
-ghost use Rattle.std.specs.Prelude.{◌≡◌, ◌<◌, ◌++◌, string_bytes, OnOk};
-ghost use Rattle.policy_text.specs.Shown.{compartment_bytes, compartments_bytes};
-ghost use Rattle.policy.specs.Access.{rules_of};
+// What is shown of the compartments.
+ghost use Rattle.std.specs.Prelude.{◌<◌};
+ghost use Rattle.output.specs.Output.{Writes};
+ghost use Rattle.policy.specs.Access.{compartments_of, rules_of};
+ghost use Rattle.policy_text.specs.Shown.{compartment_bytes, compartments_bytes, flow_bytes, flow_choice};
 
 use super::form::Form;
+use output::Output;
 use policy::Policy;
-use std::alloc::AllocError;
+use std::io::{self, Write};
 
 #[tactic(auto, using(crate::proofs::There::compartments_counted))]
-pub(crate) fn push_compartments<F: Form>(
-    text: &mut String,
+pub(crate) fn write_compartments<F: Form, W: Write>(
+    out: &mut Output<W>,
     policy: &Policy,
-) -> Result<(), AllocError>
-    ensures { OnOk result (string_bytes text.new ≡ string_bytes text.old ++ compartments_bytes F.shape (rules_of policy.now) policy.now.compartments) }
+) -> io::Result<()>
+    ensures { Writes out.old out.new result
+        (compartments_bytes F.shape (rules_of policy.now) (compartments_of policy.now)) }
 {
     for (compartment, place) in policy.places().iter().enumerate() {
-        push_compartment::<F>(text, policy, compartment, place.capacity as u64)?;
+        write_compartment::<F, W>(out, policy, compartment, place.capacity)?;
     }
     Ok(())
 }
 
 // A compartment, and those to which its rows may flow.
-#[tactic(auto, using(crate::proofs::There::compartments_counted))]
-fn push_compartment<F: Form>(
-    text: &mut String,
+fn write_compartment<F: Form, W: Write>(
+    out: &mut Output<W>,
     policy: &Policy,
     from: usize,
-    capacity: u64,
-) -> Result<(), AllocError>
-    requires { from < policy.now.compartments }
-    ensures { OnOk result (string_bytes text.new ≡ string_bytes text.old ++ compartment_bytes F.shape (rules_of policy.now) policy.now.compartments from capacity) }
+    capacity: usize,
+) -> io::Result<()>
+    requires { from < compartments_of policy.now }
+    ensures { Writes out.old out.new result
+        (compartment_bytes F.shape (rules_of policy.now) (compartments_of policy.now) from capacity) }
 {
-    F::push_compartment(text, from, capacity)?;
-    // The range indexes nothing: form and policy are asked of each pair of compartments. A compartment's place among the places is its number,
-    // a `usize` here and a `u64` where the policy is asked.
+    F::write_compartment(out, from, capacity)?;
+    write_flows::<F, W>(out, policy, from)?;
+    F::end_compartment(out)
+}
+
+// The compartments to which the rows of one may flow.
+#[tactic(auto, using(crate::proofs::There::compartments_counted))]
+fn write_flows<F: Form, W: Write>(
+    out: &mut Output<W>,
+    policy: &Policy,
+    from: usize,
+) -> io::Result<()>
+    requires { from < compartments_of policy.now }
+    ensures { Writes out.old out.new result
+        (flow_bytes F.shape (rules_of policy.now) (compartments_of policy.now) from) }
+{
     for to in 0..policy.places().len() {
-        if F::shows(from, to) && policy.may_flow(from as u64, to as u64) {
-            F::push_flow(text, from, to)?;
-        }
+        write_flow::<F, W>(out, policy, from, to)?;
     }
-    F::end_compartment(text)
+    Ok(())
+}
+
+// One of them, where the form shows it and the policy lets rows flow there.
+fn write_flow<F: Form, W: Write>(
+    out: &mut Output<W>,
+    policy: &Policy,
+    from: usize,
+    to: usize,
+) -> io::Result<()>
+    requires from { from < compartments_of policy.now }
+    requires to { to < compartments_of policy.now }
+    ensures { Writes out.old out.new result (flow_choice F.shape (rules_of policy.now) from to) }
+{
+    if F::shows(from, to) && policy.may_flow(from as u64, to as u64) {
+        return F::write_flow(out, from, to);
+    }
+    Ok(())
 }

@@ -1,7 +1,7 @@
-// What an overview says of flows, on contracts.
+// What is shown of flows.
 ghost use Rattle.policy_text.specs.Laws.{FlowsShown};
 
-// A compartment is listed behind another exactly if everybody who sees it sees that one too.
+/// A compartment is listed after another exactly if everybody who sees it sees that one too.
 pub fn flows_shown_stands()
     ensures { FlowsShown }
 {}

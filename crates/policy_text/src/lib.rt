@@ -1,9 +1,9 @@
-// A policy for people: who sees what, who writes where, and where rows may flow.
+//! A policy for people: who sees what, who writes where, and where rows may flow, written to an output.
 #![tactic(auto)]
 
-ghost use Rattle.std.specs.Prelude.{◌≡◌, IfOk, string_bytes};
-ghost use Rattle.policy_text.specs.Shown.{table_bytes, graph_bytes};
-ghost use Rattle.policy.specs.Access.{rules_of};
+ghost use Rattle.output.specs.Output.{Writes};
+ghost use Rattle.policy.specs.Access.{compartments_of, rules_of};
+ghost use Rattle.policy_text.specs.Shown.{policy_bytes, table_bytes, graph_bytes};
 
 mod compartments;
 mod form;
@@ -12,35 +12,33 @@ pub mod laws;
 mod tests;
 mod users;
 
-use compartments::push_compartments;
-use form::{Graph, Table};
+use compartments::write_compartments;
+use form::{Form, Graph, Table};
+use output::Output;
 use policy::Policy;
-use std::alloc::{AllocError, Global};
-use std::fmt::Write;
-use users::push_users;
+use std::io::{self, Write};
+use users::write_users;
 
-// `table` and `graph` are two functions: only a graph has a first and a last line, and each contract says its own text. One over a form
-// would give these two lines, empty in a table, to every form.
-
-// A line for each user, then one for each compartment.
-pub fn table(heap: Global, policy: &Policy) -> Result<String, AllocError>
-    ensures { IfOk result (λ t. string_bytes t ≡ table_bytes (rules_of policy.now) policy.now.compartments) }
+/// Writes a line for each user, then one for each compartment.
+pub fn write_table<W: Write>(out: &mut Output<W>, policy: &Policy) -> io::Result<()>
+    ensures { Writes out.old out.new result (table_bytes (rules_of policy.now) (compartments_of policy.now)) }
 {
-    let mut text = String::new(heap);
-    push_users::<Table>(&mut text, policy)?;
-    push_compartments::<Table>(&mut text, policy)?;
-    Ok(text)
+    write_policy::<Table, W>(out, policy)
 }
 
-// A graph for Graphviz: a node for each user and each compartment, and edges for who writes where, who sees what, and
-// where rows may flow.
-pub fn graph(heap: Global, policy: &Policy) -> Result<String, AllocError>
-    ensures { IfOk result (λ t. string_bytes t ≡ graph_bytes (rules_of policy.now) policy.now.compartments) }
+/// Writes a graph for Graphviz: a node for each user and each compartment, and edges for who writes where, who sees
+/// what, and where rows may flow.
+pub fn write_graph<W: Write>(out: &mut Output<W>, policy: &Policy) -> io::Result<()>
+    ensures { Writes out.old out.new result (graph_bytes (rules_of policy.now) (compartments_of policy.now)) }
 {
-    let mut text = String::new(heap);
-    writeln!(text, "digraph policy {{")?;
-    push_users::<Graph>(&mut text, policy)?;
-    push_compartments::<Graph>(&mut text, policy)?;
-    writeln!(text, "}}")?;
-    Ok(text)
+    write_policy::<Graph, W>(out, policy)
+}
+
+fn write_policy<F: Form, W: Write>(out: &mut Output<W>, policy: &Policy) -> io::Result<()>
+    ensures { Writes out.old out.new result (policy_bytes F.shape (rules_of policy.now) (compartments_of policy.now)) }
+{
+    F::begin(out)?;
+    write_users::<F, W>(out, policy)?;
+    write_compartments::<F, W>(out, policy)?;
+    F::end(out)
 }

@@ -1,57 +1,43 @@
-// Overviews of a policy of three users, and of one with room for one row.
-use policy::Policy;
-use std::alloc::{AllocError, Global};
+// A policy of three users, and one with room for one row, in both forms.
+use super::*;
+use base::Refusal;
+use policy::View;
 use std::test::Fail;
 
-// No `store_tests::THREE`: `checks` stands above, and here user 2 sees 2 in front of 1, so that the order of a view is seen.
-// 0 sees 0 and 1, 1 sees 1, 2 sees 2 and 1; each writes in the compartment of their number; capacities 3, 3 and 2.
-fn three() -> [u64; 59] {
-    let mut numbers = [0; 59];
-    numbers[0] = 3;
-    numbers[1] = 3;
-    numbers[2] = 2;
-    numbers[4] = 1;
-    numbers[20] = 1;
-    numbers[21] = 1;
-    numbers[37] = 1;
-    numbers[38] = 2;
-    numbers[39] = 2;
-    numbers[40] = 1;
-    numbers[55] = 2;
-    numbers[56] = 3;
-    numbers[57] = 3;
-    numbers[58] = 2;
-    numbers
+// User 2 sees 2 before 1, so that the order of a view is seen.
+fn three() -> Result<Policy, Refusal> {
+    let views = [
+        View {
+            sees: &[0, 1],
+            writes: 0,
+        },
+        View {
+            sees: &[1],
+            writes: 1,
+        },
+        View {
+            sees: &[2, 1],
+            writes: 2,
+        },
+    ];
+    Policy::from_views(&views, &[3, 3, 2])
 }
 
-// One user who sees and writes in compartment 0, of capacity 1.
-fn one() -> [u64; 21] {
-    let mut numbers = [0; 21];
-    numbers[0] = 1;
-    numbers[1] = 1;
-    numbers[2] = 1;
-    numbers[20] = 1;
-    numbers
-}
-
-// What an overview shows of the policy that the numbers hold.
-fn shown<F>(heap: Global, numbers: &[u64], overview: F) -> Result<String, Fail>
-where
-    F: FnOnce(Global, &Policy) -> Result<String, AllocError>,
-    requires { F.IsAlwaysCallable overview }
-{
-    // A policy goes through no `?`: in a function that uses no `Contract` this is not proved (tried).
-    match Policy::read(numbers, 64) {
-        Ok(policy) => Ok(overview(heap, &policy)?),
-        Err(refusal) => Err(Fail::from(refusal)),
-    }
+fn one() -> Result<Policy, Refusal> {
+    let view = View {
+        sees: &[0],
+        writes: 0,
+    };
+    Policy::from_views(&[view], &[1])
 }
 
 #[test]
 fn shows_a_table(rt: HostRuntime) -> Result<(), Fail> {
-    let text = shown(rt.alloc(), &three(), crate::table)?;
+    let policy = three()?;
+    let mut text = Vec::new(rt.alloc());
+    write_table(&mut Output::new(&mut text), &policy)?;
     assert!(rt;
-        text.as_str()
+        text.as_slice()
             == concat!(
                 "user 0 sees 0 1, writes in 0\n",
                 "user 1 sees 1, writes in 1\n",
@@ -60,15 +46,18 @@ fn shows_a_table(rt: HostRuntime) -> Result<(), Fail> {
                 "compartment 1 has room for 3 rows, which may flow to 0 1 2\n",
                 "compartment 2 has room for 2 rows, which may flow to 2\n"
             )
+            .as_bytes()
     );
     Ok(())
 }
 
 #[test]
 fn shows_a_graph(rt: HostRuntime) -> Result<(), Fail> {
-    let text = shown(rt.alloc(), &three(), crate::graph)?;
+    let policy = three()?;
+    let mut text = Vec::new(rt.alloc());
+    write_graph(&mut Output::new(&mut text), &policy)?;
     assert!(rt;
-        text.as_str()
+        text.as_slice()
             == concat!(
                 "digraph policy {\n",
                 "    \"user 0\";\n",
@@ -89,19 +78,32 @@ fn shows_a_graph(rt: HostRuntime) -> Result<(), Fail> {
                 "    \"compartment 2\" [shape=box];\n",
                 "}\n"
             )
+            .as_bytes()
     );
     Ok(())
 }
 
 #[test]
 fn shows_room_for_one(rt: HostRuntime) -> Result<(), Fail> {
-    let text = shown(rt.alloc(), &one(), crate::table)?;
+    let policy = one()?;
+    let mut text = Vec::new(rt.alloc());
+    write_table(&mut Output::new(&mut text), &policy)?;
     assert!(rt;
-        text.as_str()
+        text.as_slice()
             == concat!(
                 "user 0 sees 0, writes in 0\n",
                 "compartment 0 has room for 1 row, which may flow to 0\n"
             )
+            .as_bytes()
     );
+    Ok(())
+}
+
+#[test]
+fn writes_a_beginning(rt: HostRuntime) -> Result<(), Fail> {
+    let policy = one()?;
+    let mut room = [b'.'; 20];
+    assert!(rt; write_table(&mut Output::new(&mut room[..16]), &policy).is_err());
+    assert!(rt; room.as_slice() == b"user 0 sees 0, w....".as_slice());
     Ok(())
 }

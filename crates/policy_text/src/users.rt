@@ -1,29 +1,43 @@
-// What an overview says of the users.
-ghost use Rattle.std.specs.Prelude.{◌≡◌, ◌++◌, string_bytes, OnOk};
-ghost use Rattle.policy_text.specs.Shown.{user_bytes, users_bytes};
+// What is shown of the users.
+ghost use Rattle.output.specs.Output.{Writes};
 ghost use Rattle.policy.specs.Access.{rules_of};
-ghost use Rattle.policy.specs.Views.{view_of};
+ghost use Rattle.policy.specs.Views.{view_of, writes_of};
+ghost use Rattle.policy_text.specs.Shown.{seen_bytes, user_bytes, users_bytes};
 
 use super::form::Form;
+use output::Output;
 use policy::{Contract, Policy};
-use std::alloc::AllocError;
+use std::io::{self, Write};
 
 #[tactic(auto, using(crate::proofs::There::users_counted))]
-pub(crate) fn push_users<F: Form>(text: &mut String, policy: &Policy) -> Result<(), AllocError>
-    ensures { OnOk result (string_bytes text.new ≡ string_bytes text.old ++ users_bytes F.shape (rules_of policy.now)) }
+pub(crate) fn write_users<F: Form, W: Write>(out: &mut Output<W>, policy: &Policy) -> io::Result<()>
+    ensures { Writes out.old out.new result (users_bytes F.shape (rules_of policy.now)) }
 {
     for (user, contract) in policy.contracts().iter().enumerate() {
-        push_user::<F>(text, user, contract)?;
+        write_user::<F, W>(out, user, contract)?;
     }
     Ok(())
 }
 
-fn push_user<F: Form>(text: &mut String, user: usize, contract: &Contract) -> Result<(), AllocError>
-    ensures { OnOk result (string_bytes text.new ≡ string_bytes text.old ++ user_bytes F.shape user (view_of contract.now) contract.now.writes) }
+// A user, and the compartments of their view.
+fn write_user<F: Form, W: Write>(
+    out: &mut Output<W>,
+    user: usize,
+    contract: &Contract,
+) -> io::Result<()>
+    ensures { Writes out.old out.new result (user_bytes F.shape user (view_of contract.now) (writes_of contract.now)) }
 {
-    F::push_user(text, user, contract.writes())?;
-    for seen in contract.view() {
-        F::push_seen(text, user, *seen)?;
+    let writes = contract.writes();
+    F::write_user(out, user, writes)?;
+    write_view::<F, W>(out, user, contract.view())?;
+    F::end_user(out, writes)
+}
+
+fn write_view<F: Form, W: Write>(out: &mut Output<W>, user: usize, view: &[u64]) -> io::Result<()>
+    ensures { Writes out.old out.new result (seen_bytes F.shape user view.now) }
+{
+    for seen in view {
+        F::write_seen(out, user, *seen)?;
     }
-    F::end_user(text, contract.writes())
+    Ok(())
 }

@@ -1,7 +1,7 @@
 -- What is read off memory is what the model's state has.
 use Rattle.std.proofs.Common.{◌≡◌, ℕ, ◌<◌, ◌≤◌, min, List, [], map, length, sym, refl, ap, ◌∙◌, subst, inl, inr, arith}
-use Rattle.memory_query.specs.Places.{part_at}
-use Rattle.cache.specs.Entries.{held}
+use Rattle.memory_query.specs.MemoryParts.{part_at}
+use Rattle.cache.specs.Entries.{padded_entries}
 use Rattle.compartment.specs.Parts.{limit}
 use Rattle.model.specs.Model.{State, Call, empty, run}
 use Rattle.policy.specs.Access.{rules_of, place_in}
@@ -11,7 +11,7 @@ use Rattle.rows.proofs.Places.{rows_of_flat}
 use Rattle.std.proofs.lemmas.Bool.{cases_lt, lt-ltb, le-ltb}
 use Rattle.store.specs.Simulation.{Holds}
 use Rattle.store.proofs.Standing.{stands_in, count_in, version_in}
-use Rattle.promises.specs.Contents.{rows_at, version_at, cache_of, Reached}
+use Rattle.promises.specs.Contents.{rows_at, version_at, cache_numbers, Reachable}
 use Rattle.promises.specs.Traces.{call_of}
 use Rattle.promises.proofs.Proved.{follows_the_model}
 
@@ -27,7 +27,7 @@ module _ (p : Policy) (s : State) (memory : List ℕ) (h : Holds p s memory) (c 
   pub version_held : version_at p memory c ≡ s.version c
   version_held = rw (lt-ltb c p.compartments there) (version_in (place_in p c) memory (s.version c) (s.rows c) (h.compartments c there))
 
--- a compartment that isn't there has no rows, and never changes
+-- an unknown compartment has no rows, and never changes
 module _ (p : Policy) (memory : List ℕ) (c : ℕ) (past : p.compartments ≤ c) where
   pub no_rows : rows_at p memory c ≡ []
   no_rows = rw (le-ltb c p.compartments past) refl
@@ -49,16 +49,16 @@ module _ (p : Policy) (s t : State) (memory after : List ℕ) (h : Holds p s mem
     | inr l ↦ no_version p after c l ∙ sym (no_version p memory c l)
   ]
 
-  pub cache_stays : (u : ℕ) → u < p.users → t.cache u ≡ s.cache u → cache_of p after u ≡ cache_of p memory u
-  cache_stays u l e = k.caches u l ∙ (ap (held 8) e ∙ sym (h.caches u l))
+  pub cache_stays : (u : ℕ) → u < p.users → t.cache u ≡ s.cache u → cache_numbers p after u ≡ cache_numbers p memory u
+  cache_stays u l e = k.caches u l ∙ (ap (padded_entries 8) e ∙ sym (h.caches u l))
 
--- memory as requests leave it holds the model's state
-module _ (p : Policy) (memory : List ℕ) (r : Reached p memory) where
+-- memory as calls leave it holds the model's state
+module _ (p : Policy) (memory : List ℕ) (r : Reachable p memory) where
   abbrev pub calls : List Call
-  calls = map call_of r.made
+  calls = map call_of r.calls
 
   abbrev pub state : State
   state = run (rules_of p) limit empty calls
 
   pub reached : Holds p state memory
-  reached = subst (λ (m : List ℕ). Holds p state m) (sym r.is) (follows_the_model p r.start r.made r.long r.possible)
+  reached = subst (λ (m : List ℕ). Holds p state m) (sym r.is) (follows_the_model p r.start r.calls r.long r.fit)

@@ -1,50 +1,61 @@
 -- The worked example on memory, through the model's.
-use Rattle.std.proofs.Common.{◌≡◌, ℕ, zero, suc, ◌<◌, ◌≤◌, List, [], ◌∷◌, map, length, sym, refl, ap, ◌∙◌, subst, arith}
+use Rattle.std.proofs.Common.{◌≡◌, ℕ, zero, suc, ◌<◌, ◌≤◌, List, [], ◌∷◌, map, zip, length, sym, refl, ap, ◌∙◌, subst, arith}
 use Rattle.compartment.specs.Parts.{limit}
 use Rattle.model.specs.Example.{three, table, calls_of, responses_of}
-use Rattle.model.specs.Model.{State, Call, empty, step, responses}
+use Rattle.model.specs.Model.{State, Call, Response, empty, step, responses}
 use Rattle.model.proofs.Example.{worked}
 use Rattle.model.proofs.Sameness.{responses_alike}
 use Rattle.policy.specs.Access.{rules_of, memory_length}
-use Rattle.policy.specs.Laws.{Same, Valid}
-use Rattle.policy.specs.Read.{Reads}
+use Rattle.policy.specs.Laws.{SameRules, ValidRules}
+use Rattle.policy.specs.Read.{ReadsPolicy}
 use Rattle.policy.specs.Numbers.{rules_in}
 use Rattle.policy.specs.declared.Policy.{Policy}
 use Rattle.policy.proofs.Proved.{policies_valid, reads_rules}
 use Rattle.std.specs.List.{AllByRecursion}
-use Rattle.store.specs.Calls.{opened}
-use Rattle.store.specs.Simulation.{Holds}
+use Rattle.store.specs.Calls.{open_result}
+use Rattle.store.specs.Served.{response_in}
+use Rattle.store.specs.Simulation.{Holds, FitsTypes}
 use Rattle.store.proofs.Following.{open_holds}
-use Rattle.promises.specs.Example.{numbers, all_told, Worked}
-use Rattle.promises.specs.Traces.{Made, Possible, Typed, call_of, leaves}
-use Rattle.promises.proofs.Proved.{steps}
+use Rattle.store.proofs.Serving.{serve_follows}
+use Rattle.promises.specs.Example.{example_numbers, all_observations, observation_of, AsTable, WorkedExample}
+use Rattle.promises.specs.Traces.{ServeCall, Observation, AllFit, call_of, memory_left}
+use Rattle.promises.proofs.Proved.{observes}
 
--- along the calls is told what the model tells
-told_as_model : (p : Policy) (s : State) (memory : List ℕ) (made : List Made) → Holds p s memory → AllByRecursion Possible made →
-    all_told p memory made ≡ responses (rules_of p) limit s (map call_of made)
+-- along the calls is observed what the model tells
+told_as_model : (p : Policy) (s : State) (memory : List ℕ) (calls : List ServeCall) → Holds p s memory → AllFit calls →
+    all_observations p memory calls ≡ map (λ (x : Response × ServeCall). observation_of x.0 x.1.row) (zip (responses (rules_of p) limit s (map call_of calls)) calls)
 told_as_model p s memory [] h a = refl
-told_as_model p s memory (m ∷ ms) h a =
-    let f = steps p s memory m.request m.row h a.0 in
-    let rest = told_as_model p (step (rules_of p) limit s (call_of m)) (leaves p memory m.request m.row) ms f.holds a.1 in
-    rw (f.tells_so, rest) refl
+told_as_model p s memory (call ∷ calls) h a =
+    let f = serve_follows p s memory call.row call.request h a.0 in
+    let o = observes p s memory call f in
+    let rest = told_as_model p (step (rules_of p) limit s (call_of call)) (memory_left p memory call) calls f.holds a.1 in
+    rw (o, rest) refl
+
+read_as_model : (p : Policy) (s : State) (memory : List ℕ) (calls : List ServeCall) → Holds p s memory → AllFit calls →
+    map (λ (o : Observation). response_in o.told o.row) (all_observations p memory calls) ≡ responses (rules_of p) limit s (map call_of calls)
+read_as_model p s memory [] h a = refl
+read_as_model p s memory (call ∷ calls) h a =
+    let f = serve_follows p s memory call.row call.request h a.0 in
+    let rest = read_as_model p (step (rules_of p) limit s (call_of call)) (memory_left p memory call) calls f.holds a.1 in
+    rw (f.reading, rest) refl
 
 -- the example's numbers have the example's rules
-three_in : (u : ℕ) → u < 3 → ((rules_in numbers).view u ≡ three.view u) × ((rules_in numbers).writes u ≡ three.writes u)
+three_in : (u : ℕ) → u < 3 → ((rules_in example_numbers).view u ≡ three.view u) × ((rules_in example_numbers).writes u ≡ three.writes u)
 three_in zero h = (refl, refl)
 three_in (suc zero) h = (refl, refl)
 three_in (suc (suc zero)) h = (refl, refl)
 three_in (suc (suc (suc u))) h = absurd (omega arith)
 
-capacity_in : (c : ℕ) → c < 3 → (rules_in numbers).capacity c ≡ three.capacity c
+capacity_in : (c : ℕ) → c < 3 → (rules_in example_numbers).capacity c ≡ three.capacity c
 capacity_in zero h = refl
 capacity_in (suc zero) h = refl
 capacity_in (suc (suc zero)) h = refl
 capacity_in (suc (suc (suc c))) h = absurd (omega arith)
 
-module _ (p : Policy) (r : Reads numbers p) where
-  same_three : Same (rules_of p) three 3
+module _ (p : Policy) (r : ReadsPolicy example_numbers p) where
+  same_three : SameRules (rules_of p) three 3
   same_three =
-      let s = reads_rules numbers p r in
+      let s = reads_rules example_numbers p r in
       record {
         users = s.users;
         view = λ u h. s.view u h ∙ (three_in u (rw s.users at h)).0;
@@ -52,27 +63,36 @@ module _ (p : Policy) (r : Reads numbers p) where
         capacity = λ c h. s.capacity c h ∙ capacity_in c h;
       }
 
-  valid_three : Valid (rules_of p) 3 4096
-  valid_three = subst (λ (n : ℕ). Valid (rules_of p) n 4096) r.compartments (policies_valid p)
+  valid_three : ValidRules (rules_of p) 3 4096
+  valid_three = subst (λ (n : ℕ). ValidRules (rules_of p) n 4096) r.compartments (policies_valid p)
 
--- requests are possible if the model's calls of them are
-all_possible : (made : List Made) (calls : List Call) → map call_of made ≡ calls → AllByRecursion (λ call. Typed call.request) calls → AllByRecursion Possible made
-all_possible made calls e a = from made (subst (λ (cs : List Call). AllByRecursion (λ call. Typed call.request) cs) (sym e) a)
+-- calls fit the code's types if the model's calls of them do
+all_fit : (calls : List ServeCall) (model_calls : List Call) → map call_of calls ≡ model_calls → AllByRecursion (λ call. FitsTypes call.request) model_calls → AllFit calls
+all_fit calls model_calls e a = from calls (subst (λ (cs : List Call). AllByRecursion (λ call. FitsTypes call.request) cs) (sym e) a)
   where
-    from : (ms : List Made) → AllByRecursion (λ call. Typed call.request) (map call_of ms) → AllByRecursion Possible ms
+    from : (cs : List ServeCall) → AllByRecursion (λ call. FitsTypes call.request) (map call_of cs) → AllFit cs
     from [] a = tt
-    from (m ∷ ms) a = (a.0, from ms a.1)
+    from (c ∷ cs) a = (a.0, from cs a.1)
 
-table_possible : AllByRecursion (λ (call : Call). Typed call.request) (calls_of table)
-table_possible = omega arith
+table_fits : AllByRecursion (λ (call : Call). FitsTypes call.request) (calls_of table)
+table_fits = omega arith
 
-told_on_memory : (p : Policy) (memory : List ℕ) (made : List Made) → Reads numbers p → memory_length p ≤ length memory → map call_of made ≡ calls_of table →
-    all_told p (opened p memory) made ≡ responses_of table
-told_on_memory p memory made r long e =
-    told_as_model p empty (opened p memory) made (open_holds p memory long) (all_possible made (calls_of table) e table_possible)
-    ∙ (ap (responses (rules_of p) limit empty) e
-    ∙ (responses_alike (rules_of p) three 3 4096 (same_three p r) (valid_three p r) limit empty (calls_of table)
-    ∙ worked.all_told))
+module _ (p : Policy) (memory : List ℕ) (calls : List ServeCall) (r : ReadsPolicy example_numbers p) (long : memory_length p ≤ length memory) (e : map call_of calls ≡ calls_of table) where
+  fit : AllFit calls
+  fit = all_fit calls (calls_of table) e table_fits
 
-pub worked_on_memory : Worked
-worked_on_memory = record { accepted = refl; told = told_on_memory }
+  as_table : responses (rules_of p) limit empty (map call_of calls) ≡ responses_of table
+  as_table =
+      ap (responses (rules_of p) limit empty) e
+      ∙ (responses_alike (rules_of p) three 3 4096 (same_three p r) (valid_three p r) limit empty (calls_of table)
+      ∙ worked.all_told)
+
+  told_on_memory : AsTable calls (all_observations p (open_result p memory).memory calls)
+  told_on_memory = record {
+    told = told_as_model p empty (open_result p memory).memory calls (open_holds p memory long) fit
+        ∙ ap (λ (rs : List Response). map (λ (x : Response × ServeCall). observation_of x.0 x.1.row) (zip rs calls)) as_table;
+    reading = read_as_model p empty (open_result p memory).memory calls (open_holds p memory long) fit ∙ as_table;
+  }
+
+pub worked_on_memory : WorkedExample
+worked_on_memory = record { accepted = refl; told = λ p memory calls r long e. told_on_memory p memory calls r long e }

@@ -1,9 +1,7 @@
 -- From calls on memory to the model.
 pub mod Proved
 pub mod Contents
-pub mod Refused
 pub mod Effects
 pub mod Example
 pub mod Places
 pub mod Orders
-pub mod Served

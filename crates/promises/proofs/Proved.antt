@@ -1,164 +1,140 @@
--- The theorems about calls, through the model.
-use Rattle.std.proofs.Common.{◌≡◌, ℕ, suc, Bool, true, false, cond, eqb, ltb, leb, List, [], ◌∷◌, map, length, Ok, Err, Result, sym, refl, ap, ◌∙◌, inl, inr}
-use Rattle.memory_query.specs.Tie.{Tells, row_with}
+-- The theorems about lists of calls, through the model.
+use Rattle.std.proofs.Common.{◌≡◌, ℕ, ◌≤◌, true, cond, eqb, List, [], ◌∷◌, map, length, Err, sym, refl, ap, ◌∙◌, inl, inr}
 use Rattle.compartment.specs.Parts.{limit}
-use Rattle.model.specs.Model.{State, Call, Response, done, refused, who, relevant, response, step, empty, told, purge, run, copied}
+use Rattle.model.specs.Model.{State, Response, lend, who, relevant, response, step, empty, responses_to, purge, run, refused, answered}
 use Rattle.model.proofs.Interference as model
 use Rattle.model.proofs.Answering as answers
-use Rattle.policy.specs.Access.{rules_of, may_copy}
+use Rattle.policy.specs.Access.{rules_of, memory_length}
 use Rattle.policy.specs.declared.Policy.{Policy}
-use Rattle.base.specs.declared.refusal.Refusal.{Refusal}
-use Rattle.base.specs.declared.refusal.Refusal.TheVariants.{NoUser, NoFlow, NoRoom, NoRow, LastVersion}
+use Rattle.base.specs.declared.refusal.Refusal.TheVariants.{OutOfBounds}
 use Rattle.policy.proofs.Proved.{policies_valid}
-use Rattle.query.specs.declared.Outcome.{Outcome}
+use Rattle.store.proofs.Refused.{short_refusal}
+use Rattle.query.specs.Answers.{Answer}
+use Rattle.query.specs.declared.Query.{Query}
 use Rattle.request.specs.declared.Request.{Request}
 use Rattle.request.specs.declared.Request.TheVariants.{Write, Delete, Copy, Query as Ask}
-use Rattle.rows.specs.Rows.{put, has_key}
-use Rattle.std.proofs.lemmas.Bool.{cases_Bool}
-use Rattle.std.specs.List.{AllByRecursion}
-use Rattle.store.specs.Calls.{opened}
-use Rattle.store.specs.Served.{served_row}
-use Rattle.store.specs.Simulation.{Holds, Follows, as_result}
-use Rattle.store.proofs.Following.{open_holds, write_follows, delete_follows}
-use Rattle.store.proofs.Copies.{copy_follows}
-use Rattle.store.proofs.Asks.{ask_with_row}
-use Rattle.promises.specs.Promises.{Noninterference, NoninterferenceWithRows, TwoTraces, TwoTracesWithRows, FollowsTheModel, RightAnswers, RightAnswersWithRow}
-use Rattle.promises.specs.Traces.{Made, Possible, Typed, Reply, call_of, as_response, as_answer, tells, leaves, after, told_on, replies_on, purged}
+use Rattle.std.proofs.lemmas.Bool.{cases_Bool, ltb-false}
+use Rattle.store.specs.Calls.{short, open_result}
+use Rattle.memory_query.specs.Tie.{row_with}
+use Rattle.store.specs.Served.{CallResult, serve_result, reply_of}
+use Rattle.store.specs.Simulation.{Holds, Serves}
+use Rattle.store.specs.declared.reply.Reply.{Reply}
+use Rattle.store.proofs.Following.{open_holds}
+use Rattle.store.proofs.Serving.{serve_follows}
+use Rattle.promises.specs.Example.{observation_of}
+use Rattle.promises.specs.Promises.{Noninterference, TwoTraces, FollowsTheModel, IsAnswered, RightAnswers}
+use Rattle.promises.specs.Traces.{ServeCall, Observation, AllFit, call_of, observation, observations, memory_left, memory_after, relevant_calls}
 
--- one request: it tells what the model tells, and leaves memory that holds the model's next state
-pub record Steps (p : Policy) (s : State) (memory : List ℕ) (m : Made) : Type 0 where
-  pub tells_so : tells p memory m.request m.row ≡ response (rules_of p) limit s (call_of m)
-  pub left : served_row p memory m.row m.request ≡ row_with (response (rules_of p) limit s (call_of m)) m.row
-  pub holds : Holds p (step (rules_of p) limit s (call_of m)) (leaves p memory m.request m.row)
+pub observes : (p : Policy) (s : State) (memory : List ℕ) (call : ServeCall) → Serves p s memory call.row call.request →
+    observation p memory call ≡ observation_of (response (rules_of p) limit s (call_of call)) call.row
+observes p s memory call f = rw (f.told, f.row) refl
 
-told_so : (t : Result Outcome Refusal) (row : List ℕ) (r : Response) → Tells t row r → as_answer t row ≡ r
-told_so (Ok x) row r e = sym e
-told_so (Err x) row r e = sym e
-
--- a change is done or refused, so nothing is lost where it is returned, and the answer row stays
-pub record Plain (r : Response) (row : List ℕ) : Type 0 where
-  pub back : as_response (as_result r) ≡ r
-  pub row_stays : row ≡ row_with r row
-
-plain : (a b c : Bool) (x y z : Refusal) (row : List ℕ) → Plain (cond a (cond b (cond c done (refused x)) (refused y)) (refused z)) row
-plain true true true x y z row = record { back = refl; row_stays = refl }
-plain true true false x y z row = record { back = refl; row_stays = refl }
-plain true false c x y z row = record { back = refl; row_stays = refl }
-plain false b c x y z row = record { back = refl; row_stays = refl }
-
--- a change tells what the model tells, which is done or refused
-change_steps : (p : Policy) (s : State) (call : Call) (told : Result (Unit {0}) Refusal) (after row : List ℕ) →
-    Follows p s call told after → Plain (response (rules_of p) limit s call) row →
-    (as_response told ≡ response (rules_of p) limit s call) × (row ≡ row_with (response (rules_of p) limit s call) row)
-change_steps p s call told after row f q = (rw f.tells q.back, q.row_stays)
-
-pub steps : (p : Policy) (s : State) (memory : List ℕ) (request : Request) (row : List ℕ) → Holds p s memory → Typed request →
-    Steps p s memory (record { request = request; row = row })
-steps p s memory (Write user r) row h b =
-    let f = write_follows p s memory user (length row) r h b in
-    let c = (rules_of p).writes user in
-    let told = change_steps _ _ _ _ _ row f (plain (ltb user p.users) (leb (length (put r (s.rows c))) ((rules_of p).capacity c)) (ltb (suc (s.version c)) limit) (LastVersion c) (NoRoom ((rules_of p).capacity c)) (NoUser user) row) in
-    record { tells_so = told.0; left = told.1; holds = f.holds }
-steps p s memory (Delete user key) row h b =
-    let f = delete_follows p s memory user (length row) key h in
-    let c = (rules_of p).writes user in
-    let told = change_steps _ _ _ _ _ row f (plain (ltb user p.users) (has_key key (s.rows c)) (ltb (suc (s.version c)) limit) (LastVersion c) (NoRow key) (NoUser user) row) in
-    record { tells_so = told.0; left = told.1; holds = f.holds }
-steps p s memory (Copy user from range) row h b =
-    let f = copy_follows p s memory user (length row) from range h in
-    let c = (rules_of p).writes user in
-    let told = change_steps _ _ _ _ _ row f (plain (may_copy (rules_of p) user from) (leb (length (copied (rules_of p) s user from range)) ((rules_of p).capacity c)) (ltb (suc (s.version c)) limit) (LastVersion c) (NoRoom ((rules_of p).capacity c)) (NoFlow from) row) in
-    record { tells_so = told.0; left = told.1; holds = f.holds }
-steps p s memory (Ask user query) row h b =
-    let f = ask_with_row p s memory row user query h in record { tells_so = told_so _ _ _ f.follows.tells; left = f.left; holds = f.follows.holds }
+-- a query that the model answers
+pub is_answered : (p : Policy) (s : State) (memory lent : List ℕ) (user : ℕ) (query : Query) (a : Answer) (n : ℕ) → Holds p s memory →
+    response (rules_of p) limit s (lend (Ask user query) (length lent)) ≡ answered a n →
+    IsAnswered a n lent (serve_result p memory lent (Ask user query))
+is_answered p s memory lent user query a n h e =
+    let f = serve_follows p s memory lent (Ask user query) h tt in
+    record { told = f.told ∙ ap reply_of e; row = f.row ∙ ap (λ (r : Response). row_with r lent) e; reading = f.reading ∙ e }
 
 -- the rows that are lent to a user, in their order
-abbrev lent_to : ℕ → List Made → List (List ℕ)
-lent_to v [] = []
-lent_to v (m ∷ ms) = cond (eqb (who m.request) v) (m.row ∷ lent_to v ms) (lent_to v ms)
+abbrev lent_to : ℕ → List ServeCall → List (List ℕ)
+lent_to user [] = []
+lent_to user (call ∷ calls) = cond (eqb (who call.request) user) (call.row ∷ lent_to user calls) (lent_to user calls)
 
--- responses, each with the row that was lent for it as it is afterwards
-abbrev with_rows : List Response → List (List ℕ) → List Reply
-with_rows [] rows = []
-with_rows (r ∷ rs) [] = []
-with_rows (r ∷ rs) (row ∷ rows) = record { response = r; row = row_with r row } ∷ with_rows rs rows
+-- the observations of some responses, each with the row that was lent for it
+abbrev observations_of : List Response → List (List ℕ) → List Observation
+observations_of [] rows = []
+observations_of (r ∷ rs) [] = []
+observations_of (r ∷ rs) (row ∷ rows) = observation_of r row ∷ observations_of rs rows
 
--- a user is told along the calls what the model tells them, and their rows hold it
-replies_follow : (p : Policy) (v : ℕ) (s : State) (memory : List ℕ) (made : List Made) → Holds p s memory → AllByRecursion Possible made →
-    replies_on p v memory made ≡ with_rows (told (rules_of p) limit v s (map call_of made)) (lent_to v made)
-replies_follow p v s memory [] h a = refl
-replies_follow p v s memory (m ∷ ms) h a =
-    let f = steps p s memory m.request m.row h a.0 in
-    let rest = replies_follow p v (step (rules_of p) limit s (call_of m)) (leaves p memory m.request m.row) ms f.holds a.1 in
-    elim (cases_Bool (eqb (who m.request) v)) [ inl e ↦ rw (e, f.tells_so, f.left, rest) refl | inr e ↦ rw (e, rest) refl ]
+-- a user observes along the calls what the model tells them
+observations_follow : (p : Policy) (user : ℕ) (s : State) (memory : List ℕ) (calls : List ServeCall) → Holds p s memory → AllFit calls →
+    observations p user memory calls ≡ observations_of (responses_to (rules_of p) limit user s (map call_of calls)) (lent_to user calls)
+observations_follow p user s memory [] h a = refl
+observations_follow p user s memory (call ∷ calls) h a =
+    let f = serve_follows p s memory call.row call.request h a.0 in
+    let o = observes p s memory call f in
+    let rest = observations_follow p user (step (rules_of p) limit s (call_of call)) (memory_left p memory call) calls f.holds a.1 in
+    elim (cases_Bool (eqb (who call.request) user)) [ inl e ↦ rw (e, o, rest) refl | inr e ↦ rw (e, rest) refl ]
 
-holds_follow : (p : Policy) (s : State) (memory : List ℕ) (made : List Made) → Holds p s memory → AllByRecursion Possible made →
-    Holds p (run (rules_of p) limit s (map call_of made)) (after p memory made)
+holds_follow : (p : Policy) (s : State) (memory : List ℕ) (calls : List ServeCall) → Holds p s memory → AllFit calls →
+    Holds p (run (rules_of p) limit s (map call_of calls)) (memory_after p memory calls)
 holds_follow p s memory [] h a = h
-holds_follow p s memory (m ∷ ms) h a =
-    holds_follow p (step (rules_of p) limit s (call_of m)) (leaves p memory m.request m.row) ms (steps p s memory m.request m.row h a.0).holds a.1
+holds_follow p s memory (call ∷ calls) h a =
+    holds_follow p (step (rules_of p) limit s (call_of call)) (memory_left p memory call) calls
+    (serve_follows p s memory call.row call.request h a.0).holds a.1
 
--- purging the calls is purging the model's
-purged_is : (p : Policy) (v : ℕ) (made : List Made) → map call_of (purged p v made) ≡ purge (rules_of p) v (map call_of made)
-purged_is p v [] = refl
-purged_is p v (m ∷ ms) =
-    let i = purged_is p v ms in
-    elim (cases_Bool (relevant (rules_of p) v (call_of m))) [ inl e ↦ rw (e, i) refl | inr e ↦ rw (e, i) refl ]
+-- the relevant calls are those of the model
+relevant_are : (p : Policy) (user : ℕ) (calls : List ServeCall) →
+    map call_of (relevant_calls p user calls) ≡ purge (rules_of p) user (map call_of calls)
+relevant_are p user [] = refl
+relevant_are p user (call ∷ calls) =
+    let i = relevant_are p user calls in
+    elim (cases_Bool (relevant (rules_of p) user (call_of call))) [ inl e ↦ rw (e, i) refl | inr e ↦ rw (e, i) refl ]
 
-purged_possible : (p : Policy) (v : ℕ) (made : List Made) → AllByRecursion Possible made → AllByRecursion Possible (purged p v made)
-purged_possible p v [] a = tt
-purged_possible p v (m ∷ ms) a =
-    let i = purged_possible p v ms a.1 in
-    elim (cases_Bool (relevant (rules_of p) v (call_of m))) [ inl e ↦ rw e (a.0, i) | inr e ↦ rw e i ]
+relevant_fit : (p : Policy) (user : ℕ) (calls : List ServeCall) → AllFit calls → AllFit (relevant_calls p user calls)
+relevant_fit p user [] a = tt
+relevant_fit p user (call ∷ calls) a =
+    let i = relevant_fit p user calls a.1 in
+    elim (cases_Bool (relevant (rules_of p) user (call_of call))) [ inl e ↦ rw e (a.0, i) | inr e ↦ rw e i ]
 
--- what is lent to a user is lent to them in the purged trace too: their own requests are relevant
-lent_purged : (p : Policy) (v : ℕ) (made : List Made) → lent_to v (purged p v made) ≡ lent_to v made
-lent_purged p v [] = refl
-lent_purged p v (m ∷ ms) =
-    let i = lent_purged p v ms in
-    elim (cases_Bool (eqb (who m.request) v)) [
+-- what is lent to a user is lent to them in the relevant calls too: their own are relevant
+lent_relevant : (p : Policy) (user : ℕ) (calls : List ServeCall) → lent_to user (relevant_calls p user calls) ≡ lent_to user calls
+lent_relevant p user [] = refl
+lent_relevant p user (call ∷ calls) =
+    let i = lent_relevant p user calls in
+    elim (cases_Bool (eqb (who call.request) user)) [
       | inl e ↦ rw (e, i, e) refl
-      | inr e ↦ elim (cases_Bool (relevant (rules_of p) v (call_of m))) [ inl r ↦ rw (r, e) i | inr r ↦ rw (r, e) i ]
+      | inr e ↦ elim (cases_Bool (relevant (rules_of p) user (call_of call))) [ inl r ↦ rw (r, e) i | inr r ↦ rw (r, e) i ]
     ]
 
--- the responses alone
-responses_are : (p : Policy) (v : ℕ) (memory : List ℕ) (made : List Made) → told_on p v memory made ≡ map (λ (r : Reply). r.response) (replies_on p v memory made)
-responses_are p v memory [] = refl
-responses_are p v memory (m ∷ ms) =
-    let i = responses_are p v (leaves p memory m.request m.row) ms in
-    elim (cases_Bool (eqb (who m.request) v)) [ inl e ↦ rw (e, i) refl | inr e ↦ rw (e, i) refl ]
+abbrev observed : CallResult Reply → Observation
+observed result = record { told = result.told; row = result.row }
 
-pub noninterference_with_rows : NoninterferenceWithRows
-noninterference_with_rows p v memory made long a =
+short_observations : (p : Policy) (user : ℕ) (memory : List ℕ) (calls : List ServeCall) → short p memory ≡ true →
+    observations p user memory calls ≡ map (λ (row : List ℕ). observation_of (refused (OutOfBounds (length memory))) row) (lent_to user calls)
+short_observations p user memory [] e = refl
+short_observations p user memory (call ∷ calls) e =
+    let why = OutOfBounds (length memory) in
+    let r = short_refusal p memory call.row call.request e in
+    let o : observation p memory call ≡ observation_of (refused why) call.row =
+    ap (λ (result : CallResult Reply). observed result) r in
+    let m : memory_left p memory call ≡ memory = ap (λ (result : CallResult Reply). result.memory) r in
+    let rest = short_observations p user memory calls e in
+    elim (cases_Bool (eqb (who call.request) user)) [ inl i ↦ rw (i, o, m, rest) refl | inr i ↦ rw (i, m, rest) refl ]
+
+noninterference_of_short : (p : Policy) (user : ℕ) (memory : List ℕ) (calls : List ServeCall) → short p memory ≡ true →
+    observations p user memory (relevant_calls p user calls) ≡ observations p user memory calls
+noninterference_of_short p user memory calls e =
+    let whole = short_observations p user memory calls e in
+    let part = short_observations p user memory (relevant_calls p user calls) e in
+    rw (part, whole, lent_relevant p user calls) refl
+
+noninterference_of_long : (p : Policy) (user : ℕ) (memory : List ℕ) (calls : List ServeCall) → memory_length p ≤ length memory → AllFit calls →
+    observations p user (open_result p memory).memory (relevant_calls p user calls) ≡ observations p user (open_result p memory).memory calls
+noninterference_of_long p user memory calls long a =
     let h = open_holds p memory long in
-    let calls = map call_of made in
-    let whole = replies_follow p v empty (opened p memory) made h a in
-    let part = replies_follow p v empty (opened p memory) (purged p v made) h (purged_possible p v made a) in
-    let same = model.noninterference (rules_of p) limit v calls (policies_valid p).sound in
-    rw (part, whole, purged_is p v made, lent_purged p v made, same) refl
+    let whole = observations_follow p user empty (open_result p memory).memory calls h a in
+    let part = observations_follow p user empty (open_result p memory).memory (relevant_calls p user calls) h (relevant_fit p user calls a) in
+    let same = model.noninterference (rules_of p) limit user (map call_of calls) (policies_valid p).sound in
+    rw (part, whole, relevant_are p user calls, lent_relevant p user calls, same) refl
 
 pub noninterference : Noninterference
-noninterference p v memory made long a =
-    responses_are p v (opened p memory) (purged p v made)
-    ∙ ap (map (λ (r : Reply). r.response)) (noninterference_with_rows p v memory made long a)
-    ∙ sym (responses_are p v (opened p memory) made)
+noninterference p user memory calls a = elim (cases_Bool (short p memory)) [
+  | inl e ↦ rw e (noninterference_of_short p user memory calls e)
+  | inr e ↦ noninterference_of_long p user memory calls (ltb-false (length memory) (memory_length p) e) a
+]
 
 pub two_traces : TwoTraces
-two_traces p v memory made others long a b e =
-    sym (noninterference p v memory made long a) ∙ (ap (told_on p v (opened p memory)) e ∙ noninterference p v memory others long b)
-
-pub two_traces_with_rows : TwoTracesWithRows
-two_traces_with_rows p v memory made others long a b e =
-    sym (noninterference_with_rows p v memory made long a) ∙ (ap (replies_on p v (opened p memory)) e ∙ noninterference_with_rows p v memory others long b)
+two_traces p user memory calls others a b e =
+    sym (noninterference p user memory calls a) ∙ (ap (observations p user (open_result p memory).memory) e ∙ noninterference p user memory others b)
 
 pub follows_the_model : FollowsTheModel
-follows_the_model p memory made long a = holds_follow p empty (opened p memory) made (open_holds p memory long) a
-
-pub right_answers_with_row : RightAnswersWithRow
-right_answers_with_row p memory made user query row long a there enough =
-    let f = steps p (run (rules_of p) limit empty (map call_of made)) (after p (opened p memory) made) (Ask user query) row (follows_the_model p memory made long a) tt in
-    let right = answers.right_answers (rules_of p) limit (map call_of made) user query (length row) there enough in
-    rw (f.tells_so, f.left, right) refl
+follows_the_model p memory calls long a = holds_follow p empty (open_result p memory).memory calls (open_holds p memory long) a
 
 pub right_answers : RightAnswers
-right_answers p memory made user query row long a there enough = ap (λ (r : Reply). r.response) (right_answers_with_row p memory made user query row long a there enough)
+right_answers p memory calls user query lent long a there enough =
+    is_answered p (run (rules_of p) limit empty (map call_of calls)) (memory_after p (open_result p memory).memory calls) lent user query _ _
+    (follows_the_model p memory calls long a)
+    (answers.right_answers (rules_of p) limit (map call_of calls) user query (length lent) there enough)

@@ -4,4 +4,3 @@ pub mod Promises
 pub mod Contents
 pub mod Effects
 pub mod Example
-pub mod Served

@@ -1,5 +1,6 @@
 -- What a view holds.
-use Rattle.std.proofs.Common.{◌≡◌, ℕ, ◌≤◌, true, eqb, List, ◌∷◌, length, refl}
+use Rattle.std.proofs.Common.{◌≡◌, ℕ, ◌≤◌, true, eqb, List, ◌∷◌, length, refl, arith}
+use Rattle.std.proofs.lemmas.List.{length-take-le}
 use Rattle.std.proofs.lemmas.Bool.{eq-eqb, or_left, or_right}
 use Rattle.policy.specs.Rules.{has}
 use Rattle.policy.specs.Views.{view_of}
@@ -12,4 +13,4 @@ pub has_tail : (c d : ℕ) (cs : List ℕ) → has cs d ≡ true → has (c ∷ 
 has_tail c d cs h = or_right (eqb c d) (has cs d) h
 
 pub view_few : (c : Contract) → length (view_of c) ≤ 16
-view_few c = c.few
+view_few c = omega (arith, c.few, length-take-le c.count c.view (omega (arith, c.few, c.long)))

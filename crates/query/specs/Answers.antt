@@ -1,6 +1,5 @@
 -- What a query answers and what answering costs, over a view and the rows of each compartment.
--- Recursions are written out, so that what is to be believed needs no other page; std's `map` and `sum_by` would say the same.
-use Rattle.std.specs.Prelude.{ℕ, ◌+◌, Bool, false, if◌then◌else◌, ◌&&◌, List, [], ◌∷◌, length, ◌==◌}
+use Rattle.std.specs.Prelude.{ℕ, ◌+◌, Bool, false, if◌then◌else◌, ◌&&◌, List, map, length, ◌==◌, sum_by}
 use Rattle.rows.specs.declared.Row.{Row}
 use Rattle.rows.specs.declared.KeyRange.{KeyRange}
 use Rattle.rows.specs.Rows.{rows_in, also_in, sum}
@@ -8,25 +7,24 @@ use Rattle.policy.specs.Rules.{has}
 use Rattle.query.specs.declared.Query.{Query}
 use Rattle.query.specs.declared.Query.TheVariants.{Rows, Total, Shared}
 
--- of each compartment in the view its rows; how many rows and their sum; rows of one compartment; or that it may not be asked
+-- the rows of each compartment in the view; how many rows, and their sum; rows of one compartment; not both are seen
 pub data Answer : Type 0 where
   lists : List (List Row) → Answer
   total : ℕ → ℕ → Answer
   list : List Row → Answer
   not_seen : Answer
 
+-- how many rows there are in some lists
 abbrev pub count_all : List (List Row) → ℕ
-count_all [] = 0
-count_all (l ∷ ls) = length l + count_all ls
+count_all ls = sum_by (λ l. length l) ls
 
+-- and the sum of their amounts
 abbrev pub sum_all : List (List Row) → ℕ
-sum_all [] = 0
-sum_all (l ∷ ls) = sum l + sum_all ls
+sum_all ls = sum_by (λ l. sum l) ls
 
 -- the rows in the range of each compartment of the view, in its order
 abbrev pub lists_of : (ℕ → List Row) → KeyRange → List ℕ → List (List Row)
-lists_of rows range [] = []
-lists_of rows range (c ∷ cs) = rows_in range (rows c) ∷ lists_of rows range cs
+lists_of rows range view = map (λ c. rows_in range (rows c)) view
 
 abbrev pub answer : List ℕ → (ℕ → List Row) → Query → Answer
 answer view rows (Rows range) = lists (lists_of rows range view)

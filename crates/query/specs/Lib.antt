@@ -2,6 +2,6 @@
 pub mod Query
 pub mod Answers
 pub mod Looks
-pub mod Numbers
+pub mod AnswerRows
 pub mod More
 pub mod Laws

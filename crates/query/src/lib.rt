@@ -1,4 +1,4 @@
-// Queries over what a user sees, their answers, and the rows that answering examines.
+//! Queries over what a user sees, their answers, and the rows that answering examines.
 #![tactic(auto)]
 
 ghost use Rattle.std.specs.Prelude.{◌≡◌};
@@ -7,30 +7,28 @@ ghost use Rattle.query.specs.Query.{range_of};
 use rows::KeyRange;
 
 pub mod laws;
-mod looked;
 mod parts;
-mod sizes;
+mod scope;
 
-pub use looked::{LookedAt, looks_at, sees_both};
 pub use parts::answer;
-pub use sizes::needed;
+pub use scope::Scope;
 
-// So many numbers stand in front of the rows of an answer.
+/// How many numbers of an answer row come before the rows.
 pub const HEADER: usize = 32;
 
-// What may be asked of the compartments in a user's view.
+/// What may be asked of the compartments in a user's view.
 #[derive(Clone, Copy, PartialEq, Eq, Debug)]
 pub enum Query {
-    // The rows of the range, compartment by compartment.
+    /// The rows of the range, compartment by compartment.
     Rows { range: KeyRange },
-    // How many these are, and the sum of their amounts.
+    /// How many these are, and the sum of their amounts.
     Total { range: KeyRange },
-    // The rows of `a` in the range whose keys are in `b`.
+    /// The rows of `a` in the range whose keys are in `b`.
     Shared { a: u64, b: u64, range: KeyRange },
 }
 
 impl Query {
-    // The keys that it asks for.
+    /// The keys that it asks for.
     pub fn range(self) -> KeyRange
         ensures { result ≡ range_of self }
     {
@@ -40,25 +38,25 @@ impl Query {
     }
 }
 
-// What was answered. Rows stand in the answer row: a header of 32 numbers, then key and amount of each row, from place 32 on.
-// What lies behind the last row stays as it was.
+/// What was answered. Rows are in the answer row: a header of 32 numbers, then key and amount of each row. What the
+/// answer row holds after the last row stays as it was.
 #[derive(Clone, Copy, PartialEq, Eq, Debug)]
-pub enum Answered {
-    // Place i of the header says how many rows the i-th compartment of the view gave, for each of them, and 0 stands behind;
-    // the rows are in the same order.
+pub enum AnswerSummary {
+    /// Place i of the header says how many rows are of the i-th compartment of the view, for each of them, and the rest
+    /// of the header is 0; the rows are in the same order.
     Rows { compartments: usize },
-    // The sum is modulo 2^64. The row stays as it was.
+    /// The sum is modulo 2^64. The row stays as it was.
     Total { rows: usize, amount: u64 },
-    // Place 0 of the header says how many rows there are, and 0 stands behind.
+    /// Place 0 of the header says how many rows there are, and the rest of the header is 0.
     Shared { rows: usize },
-    // The user does not see both compartments. The row stays as it was.
+    /// The user does not see both compartments. The row stays as it was.
     NotSeen,
 }
 
-// An answer, and how many rows were examined for it.
+/// An answer, and how many rows were examined for it.
 #[derive(Clone, Copy, PartialEq, Eq, Debug)]
 pub struct Outcome {
-    pub answered: Answered,
+    pub answered: AnswerSummary,
     pub examined: usize,
 }
 
@@ -82,20 +80,19 @@ mod tests {
         ];
         let policy = Policy::read(&numbers, 4096).expect(&rt, "a policy");
         let contract = policy.contract(0).expect(&rt, "a user");
-        let rows = Query::Rows { range: ALL };
-        assert!(rt; looks_at(contract, rows).compartments() == [2, 0].as_slice());
-        assert_eq!(rt; needed(&policy, contract, rows), Some(112));
+        let rows = Scope::of(contract, Query::Rows { range: ALL });
+        assert!(rt; rows.compartments() == [2, 0].as_slice());
+        assert_eq!(rt; rows.needed(&policy), Some(112));
         let (a, b, range) = (0, 2, ALL);
-        let seen = Query::Shared { a, b, range };
-        assert!(rt; looks_at(contract, seen).compartments() == [0, 2].as_slice());
-        assert_eq!(rt; needed(&policy, contract, seen), Some(52));
-        assert!(rt; sees_both(contract, a, b));
+        let seen = Scope::of(contract, Query::Shared { a, b, range });
+        assert!(rt; seen.compartments() == [0, 2].as_slice());
+        assert_eq!(rt; seen.needed(&policy), Some(52));
         let b = 1;
-        assert!(rt; !sees_both(contract, a, b));
-        let unseen = Query::Shared { a, b, range };
-        assert!(rt; looks_at(contract, unseen).compartments().is_empty());
-        assert_eq!(rt; needed(&policy, contract, unseen), None);
-        assert_eq!(rt; unseen.range(), ALL);
+        let query = Query::Shared { a, b, range };
+        let unseen = Scope::of(contract, query);
+        assert!(rt; unseen.compartments().is_empty());
+        assert_eq!(rt; unseen.needed(&policy), None);
+        assert_eq!(rt; query.range(), ALL);
     }
 
     #[test]
@@ -108,7 +105,7 @@ mod tests {
         assert_eq!(rt; answer(query, &parts, &mut row[0..41]), None);
         assert!(rt; row == [7; 43]);
         let told = Outcome {
-            answered: Answered::Rows { compartments: 2 },
+            answered: AnswerSummary::Rows { compartments: 2 },
             examined: 3,
         };
         assert_eq!(rt; answer(query, &parts, &mut row), Some(told));
@@ -122,7 +119,7 @@ mod tests {
         let mut row = [7; 40];
         let query = Query::Total { range: SOME };
         let told = Outcome {
-            answered: Answered::Total {
+            answered: AnswerSummary::Total {
                 rows: 2,
                 amount: 100,
             },
@@ -144,14 +141,14 @@ mod tests {
             range: ALL,
         };
         let told = Outcome {
-            answered: Answered::Shared { rows: 1 },
+            answered: AnswerSummary::Shared { rows: 1 },
             examined: 5,
         };
         assert_eq!(rt; answer(query, &parts, &mut row), Some(told));
         assert_eq!(rt; row[0], 1);
         assert!(rt; row[31..36] == [0, 5, 50, 7, 7]);
         let told = Outcome {
-            answered: Answered::NotSeen,
+            answered: AnswerSummary::NotSeen,
             examined: 0,
         };
         assert_eq!(rt; answer(query, &[], &mut []), Some(told));

@@ -1,9 +1,9 @@
 // Answers, worked out of the parts of memory that a query looks at and of nothing else.
 ghost use Rattle.std.specs.Prelude.{◌≡◌, ◌+◌, ◌%◌, ◌^◌, ◌<◌, ◌≤◌, true, [], ◌∷◌, ◌++◌, map, length, drop, nat_le};
 ghost use Rattle.rows.specs.Numbers.{range_part};
-ghost use Rattle.query.specs.Numbers.{fits, lengths, counts, count_in, amount_in, cut, common, written_lists, written_list, rows_outcome, total_outcome, list_outcome, shared_outcome, shared_row, outcome, row_after};
+ghost use Rattle.query.specs.AnswerRows.{row_has_room, lengths, counts, count_in, amount_in, range_parts, common_rows, written_lists, written_list, rows_outcome, total_outcome, list_outcome, shared_result, answer_result};
 
-use crate::{Answered, HEADER, Outcome, Query};
+use crate::{AnswerSummary, HEADER, Outcome, Query};
 use base::COMPARTMENTS;
 use rows::KeyRange;
 use std::marker::Model;
@@ -22,11 +22,11 @@ impl<'a> Model for Parts<'a> {
     ghost view = { λ p. map (λ x. x.now) p.parts.now };
 }
 
-// Answers a query. Each part is the rows of one compartment; they are those that `looks_at` names, in its order.
-// Refused, with the row as it was, where the row has no room for what the parts hold.
+/// Answers a query. Each part is the rows of one compartment, in the order in which `Scope::compartments` has them.
+/// None, with the row as it was, where the row has no room for what the parts hold.
 pub fn answer(query: Query, parts: &[&[u64]], row: &mut [u64]) -> Option<Outcome>
-    ensures told { result ≡ outcome query (map (λ x. x.now) parts.now) (length row.old) }
-    ensures after { row.new ≡ row_after query (map (λ x. x.now) parts.now) row.old }
+    ensures told { result ≡ (answer_result query (map (λ x. x.now) parts.now) row.old).told }
+    ensures after { row.new ≡ (answer_result query (map (λ x. x.now) parts.now) row.old).row }
 {
     let parts = Parts { parts };
     match query {
@@ -40,7 +40,7 @@ pub fn answer(query: Query, parts: &[&[u64]], row: &mut [u64]) -> Option<Outcome
 impl Parts<'_> {
     // Whether a row of this length has room for all that the parts hold.
     fn fit(&self, long: usize) -> bool
-        ensures { result ≡ fits self.now long }
+        ensures { result ≡ row_has_room self.now long }
     {
         self.parts.len() <= COMPARTMENTS && long >= HEADER && self.has_room(long - HEADER)
     }
@@ -58,9 +58,9 @@ impl Parts<'_> {
         true
     }
 
-    // Writes the rows in the range behind a header that says how many each part gave.
+    // Writes a header that says how many rows of each part are in the range, and these rows.
     fn write_rows(&self, range: KeyRange, row: &mut [u64]) -> Outcome
-        requires { fits self.now (length row.old) ≡ true }
+        requires { row_has_room self.now (length row.old) ≡ true }
         ensures told { result ≡ rows_outcome range self.now }
         ensures after { row.new ≡ written_lists range self.now row.old }
     {
@@ -68,23 +68,22 @@ impl Parts<'_> {
         header.fill(0);
         let examined = self.collect(range, header, body);
         Outcome {
-            answered: Answered::Rows {
+            answered: AnswerSummary::Rows {
                 compartments: self.parts.len(),
             },
             examined,
         }
     }
 
-    // The counts and the rows, one part behind the other.
+    // The counts and the rows, part after part.
     fn collect(&self, range: KeyRange, header: &mut [u64], body: &mut [u64]) -> usize
         requires heads { length self.now ≤ length header.old }
         requires room { lengths self.now ≤ length body.old }
         ensures told { result ≡ count_in range self.now }
         ensures heads { header.new ≡ counts range self.now ++ drop (length self.now) header.old }
-        ensures rows { body.new ≡ cut range self.now ++ drop (length (cut range self.now)) body.old }
+        ensures rows { body.new ≡ range_parts range self.now ++ drop (length (range_parts range self.now)) body.old }
     {
         let mut at = 0;
-        // By place, since what is written through a zip is lost to the proof.
         for (i, part) in self.parts.iter().enumerate() {
             let found = rows::range(part, range);
             header[i] = (found.len() / 2) as u64;
@@ -107,19 +106,19 @@ impl Parts<'_> {
             amount = amount.wrapping_add(found.amount);
         }
         Outcome {
-            answered: Answered::Total { rows, amount },
+            answered: AnswerSummary::Total { rows, amount },
             examined: rows,
         }
     }
 
     // Two parts are lent where both are seen. Of the first all rows may be told.
     fn compare(&self, range: KeyRange, row: &mut [u64]) -> Option<Outcome>
-        ensures told { result ≡ shared_outcome range self.now (length row.old) }
-        ensures after { row.new ≡ shared_row range self.now row.old }
+        ensures told { result ≡ (shared_result range self.now row.old).told }
+        ensures after { row.new ≡ (shared_result range self.now row.old).row }
     {
         let [a, b] = self.parts else {
             return Some(Outcome {
-                answered: Answered::NotSeen,
+                answered: AnswerSummary::NotSeen,
                 examined: 0,
             });
         };
@@ -131,11 +130,11 @@ impl Parts<'_> {
     }
 }
 
-// Writes the rows of `a` in the range whose keys are in `b`, behind a header that says how many they are.
+// Writes a header that says how many rows of `a` in the range have keys that are in `b`, and these rows.
 fn write_shared(a: &[u64], b: &[u64], range: KeyRange, row: &mut [u64]) -> Outcome
     requires { HEADER + length a.now ≤ length row.old }
     ensures told { result ≡ list_outcome range a.now b.now }
-    ensures after { row.new ≡ written_list (common (range_part range a.now) b.now) row.old }
+    ensures after { row.new ≡ written_list (common_rows (range_part range a.now) b.now) row.old }
 {
     let found = rows::range(a, range);
     let (header, body) = row.split_at_mut(HEADER);
@@ -143,7 +142,7 @@ fn write_shared(a: &[u64], b: &[u64], range: KeyRange, row: &mut [u64]) -> Outco
     header.fill(0);
     header[0] = rows as u64;
     Outcome {
-        answered: Answered::Shared { rows },
+        answered: AnswerSummary::Shared { rows },
         examined: found.len() / 2 + b.len() / 2,
     }
 }

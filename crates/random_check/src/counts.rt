@@ -3,15 +3,12 @@ use crate::event::{ALL, EVENTS, Event};
 use crate::shape::{CAPACITY, USERS};
 use crate::side::Response;
 use crate::trace::{Trace, Turn};
-use policy::Policy;
-use request::Request;
 use std::fmt;
-use store::Reply;
+use store::{Reply, Request};
 
 #[derive(Drop)]
 pub(crate) struct Counts {
-    // A count for each event, in the order of `ALL`, which is the enum's. No map: it allocates, so that each `add` would return a
-    // `Result`, and `Event` would need an order.
+    // A count for each event, in the order of `ALL`, which is the enum's; an array, since a map allocates.
     counts: [u64; EVENTS],
 }
 
@@ -36,15 +33,15 @@ impl Counts {
 
     pub(crate) fn add_trace(&mut self, trace: &Trace) {
         self.add(Event::Trace);
-        self.add_if(trace.users == 1, Event::OneUser);
-        self.add_if(trace.users == USERS as usize, Event::MostUsers);
-        self.add_capacities(&trace.policy);
+        self.add_if(trace.users() == 1, Event::OneUser);
+        self.add_if(trace.users() == USERS as usize, Event::MostUsers);
+        self.add_capacities(trace.rules.capacities.as_slice());
     }
 
-    fn add_capacities(&mut self, policy: &Policy) {
-        for place in policy.places() {
-            self.add_if(place.capacity == 1, Event::LeastCapacity);
-            self.add_if(place.capacity == CAPACITY as usize, Event::MostCapacity);
+    fn add_capacities(&mut self, capacities: &[u64]) {
+        for capacity in capacities {
+            self.add_if(*capacity == 1, Event::LeastCapacity);
+            self.add_if(*capacity == u64::from(CAPACITY), Event::MostCapacity);
         }
     }
 

@@ -1,4 +1,5 @@
-// Plays random traces whole and purged for every user, and compares all that the user is told: responses and answer rows.
+//! Plays random traces whole and purged for every user, and compares all that the user is told: responses and answer
+//! rows.
 #![tactic(auto)]
 
 mod counts;
@@ -6,7 +7,7 @@ mod event;
 mod mix;
 mod random;
 mod recent;
-mod relevant;
+mod rules;
 mod shape;
 mod side;
 mod stage;
@@ -23,7 +24,8 @@ const SEED: u64 = 0x9e37_79b9_7f4a_7c15;
 
 const TRACES: u32 = 10_000;
 
-// Ends at the first difference. The counts in the file `stdout` were read off a run; what is asked of a run is that there is no difference.
+// Ends at the first difference. The counts in the file `stdout` say how much is tried; what is asked of a run is its
+// last line.
 fn main(rt: HostRuntime) -> anyhow::Result<()> {
     let heap = rt.alloc();
     let mut random = Random::new(SEED);

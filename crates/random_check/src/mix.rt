@@ -1,12 +1,10 @@
 // Random requests: what one trace asks, and how often.
 use crate::random::Random;
 use crate::shape::{CAPACITY, COMPARTMENTS, Shape};
-use query::Query;
-use request::Request;
-use rows::{KeyRange, Row};
 use std::alloc::{AllocError, Global};
+use store::{KeyRange, Query, Request, Row};
 
-// The numbers of an answer row before its rows. Said here for itself, as the bounds in shape.rt are.
+// The numbers of an answer row before its rows, said here once more as the bounds in shape.rt are.
 pub(crate) const HEADER: u32 = 32;
 
 // The longest answer row that a policy asks for: a header, and two numbers for each row.
@@ -28,8 +26,8 @@ pub(crate) struct Mix {
     shape: Shape,
     // Keys are below this one, or the highest there is.
     keys: u32,
-    // How many of a hundred requests are queries, but for the first few; how many of a hundred changes are writes; and how many
-    // requests are made again.
+    // How many of a hundred requests are queries, but for the first few; how many of a hundred changes are writes;
+    // and how many requests are made again.
     queries: u32,
     writes: u32,
     again: u32,
@@ -104,7 +102,7 @@ impl Mix {
         Call { request, length }
     }
 
-    // Somebody who is there, or the first who isn't.
+    // A user of the policy, or the first number that is none.
     fn user(&self, random: &mut Random) -> usize {
         if random.happens(3) {
             self.shape.users as usize
@@ -145,7 +143,7 @@ impl Mix {
         }
     }
 
-    // Mostly one that is there; often one of those that everybody may see.
+    // Mostly one of the policy; often one of those that everybody may see.
     fn compartment(&self, random: &mut Random) -> u64 {
         let bound = match random.below(20) {
             0 => COMPARTMENTS,

@@ -1,9 +1,7 @@
 // The queries that a user was answered since what they see was changed.
 use crate::side::Response;
-use query::Query;
-use request::Request;
 use std::alloc::{AllocError, Global};
-use store::Reply;
+use store::{Query, Reply, Request};
 
 #[derive(Drop)]
 pub(crate) struct Recent {

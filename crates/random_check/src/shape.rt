@@ -1,9 +1,9 @@
-// Random policies, as the numbers that are read.
+// Random policies.
 use crate::random::Random;
+use crate::rules::{Contract, Rules};
 use std::alloc::{AllocError, Global};
 
-// The largest policy of a trace. The numbers are said here once more and taken from no crate that is tested: it is a rule of the
-// project that a check is independent of what it checks.
+// The largest policy of a trace, said here once more: a check is independent of what it checks.
 pub(crate) const USERS: u32 = 32;
 
 pub(crate) const COMPARTMENTS: u32 = 16;
@@ -46,35 +46,25 @@ impl Shape {
         }
     }
 
-    // The numbers of a policy of this shape.
-    pub(crate) fn numbers(
-        &self,
-        random: &mut Random,
-        heap: Global,
-    ) -> Result<Vec<u64>, AllocError> {
-        let mut numbers = Vec::new(heap);
-        numbers.push(u64::from(self.users))?;
-        numbers.push(u64::from(self.compartments))?;
-        self.push_contracts(&mut numbers, random, heap)?;
-        self.push_capacities(&mut numbers, random)?;
-        Ok(numbers)
+    // The rules of a policy of this shape.
+    pub(crate) fn rules(&self, random: &mut Random, heap: Global) -> Result<Rules, AllocError> {
+        let contracts = self.contracts(random, heap)?;
+        let capacities = self.capacities(random, heap)?;
+        Ok(Rules {
+            contracts,
+            capacities,
+        })
     }
 
-    fn push_contracts(
-        &self,
-        numbers: &mut Vec<u64>,
-        random: &mut Random,
-        heap: Global,
-    ) -> Result<(), AllocError> {
+    fn contracts(&self, random: &mut Random, heap: Global) -> Result<Vec<Contract>, AllocError> {
+        let mut contracts = Vec::new(heap);
         for _ in 0..self.users {
             let writes = self.writes(random);
-            let mut view = self.view(random, writes, heap)?;
-            numbers.push(view.len() as u64)?;
-            view.resize(COMPARTMENTS as usize, 0)?;
-            numbers.extend_from_slice(view.as_slice())?;
-            numbers.push(u64::from(writes))?;
+            let view = self.view(random, writes, heap)?;
+            let writes = u64::from(writes);
+            contracts.push(Contract { view, writes })?;
         }
-        Ok(())
+        Ok(contracts)
     }
 
     // Often the first compartment, so that there is much to copy from there.
@@ -117,15 +107,12 @@ impl Shape {
         }
     }
 
-    fn push_capacities(
-        &self,
-        numbers: &mut Vec<u64>,
-        random: &mut Random,
-    ) -> Result<(), AllocError> {
+    fn capacities(&self, random: &mut Random, heap: Global) -> Result<Vec<u64>, AllocError> {
+        let mut capacities = Vec::new(heap);
         for _ in 0..self.compartments {
             let capacity = self.capacity(random);
-            numbers.push(u64::from(capacity))?;
+            capacities.push(u64::from(capacity))?;
         }
-        Ok(())
+        Ok(capacities)
     }
 }

@@ -3,13 +3,11 @@ use crate::mix::LONGEST;
 use crate::shape::{CAPACITY, COMPARTMENTS, USERS};
 use crate::trace::Turn;
 use anyhow::anyhow;
-use base::Refusal;
-use policy::Policy;
 use std::alloc::{AllocError, Global};
-use store::Reply;
+use store::{Policy, Refusal, Reply};
 
-// The memory of the largest policy: two numbers for each compartment and each of its rows, and 192 for each user's cache.
-// `play_for` has this too; it is said here for itself, as the bounds in shape.rt are.
+// The memory of the largest policy: two numbers for each compartment and each of its rows, and 192 for each user's
+// cache. Said here once more, as the bounds in shape.rt are.
 const MEMORY: usize = (COMPARTMENTS * (2 + 2 * CAPACITY) + 192 * USERS) as usize;
 
 // What a call tells.

@@ -2,7 +2,6 @@
 use crate::counts::Counts;
 use crate::event::Event;
 use crate::recent::Recent;
-use crate::relevant::relevant;
 use crate::side::Side;
 use crate::trace::{Trace, Turn};
 use std::alloc::{AllocError, Global};
@@ -14,8 +13,8 @@ pub(crate) struct Stage {
     recent: Recent,
 }
 
-// The first request of which a user was told otherwise, both counted from 0. It is no error: it is what a run looks for, and is
-// printed on standard output; an error (memory that runs out, a store that isn't opened) keeps a run from looking.
+// The first request of which a user was told otherwise, both counted from 0. It is what a run looks for, and no
+// error, which keeps a run from looking.
 #[derive(Clone, Copy)]
 pub(crate) struct Difference {
     pub(crate) user: usize,
@@ -31,13 +30,13 @@ impl Stage {
         })
     }
 
-    // For all who are there, and one who isn't: the range counts users, and indexes nothing.
+    // For every user of the policy and one unknown user: the range counts users, and indexes nothing.
     pub(crate) fn play(
         &mut self,
         trace: &Trace,
         counts: &mut Counts,
     ) -> anyhow::Result<Option<Difference>> {
-        for user in 0..=trace.users {
+        for user in 0..=trace.users() {
             if let Some(request) = self.play_for(trace, user, counts)? {
                 return Ok(Some(Difference { user, request }));
             }
@@ -68,7 +67,7 @@ impl Stage {
     // A request of somebody else is purged unless it is relevant.
     fn play_other(&mut self, turn: Turn, viewer: usize, counts: &mut Counts) {
         let response = self.whole.serve_other(turn);
-        if relevant(turn.policy, viewer, turn.call.request) {
+        if turn.rules.is_relevant(viewer, turn.call.request) {
             let _ = self.purged.serve_other(turn);
             self.recent.changed(response);
         } else {

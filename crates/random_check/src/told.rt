@@ -4,10 +4,7 @@ use crate::mix::HEADER;
 use crate::shape::CAPACITY;
 use crate::side::Response;
 use crate::trace::Turn;
-use base::Refusal;
-use query::{Answered, Outcome};
-use request::Request;
-use store::Reply;
+use store::{AnswerSummary, Outcome, Refusal, Reply, Request};
 
 impl Turn<'_> {
     // What came of the call; of an answer of rows the lent row says whether there are any.
@@ -33,9 +30,10 @@ impl Turn<'_> {
     }
 
     fn copied(self, user: usize, compartment: u64) -> Event {
-        match self.policy.written(user) {
-            Some(written) if written.compartment == compartment => Event::CopiedToItself,
-            _ => Event::Copied,
+        if self.rules.written(user) == Some(compartment) {
+            Event::CopiedToItself
+        } else {
+            Event::Copied
         }
     }
 
@@ -56,9 +54,9 @@ impl Turn<'_> {
 
     fn refused_copy(self, compartment: u64) -> Event {
         let user = self.call.request.user();
-        if !self.policy.has_user(user) {
+        if !self.rules.has_user(user) {
             Event::Absent
-        } else if !self.policy.sees(user, compartment) {
+        } else if !self.rules.sees(user, compartment) {
             Event::UnseenCopy
         } else {
             Event::NoFlow
@@ -69,16 +67,16 @@ impl Turn<'_> {
 fn answered(outcome: Outcome, row: &[u64]) -> Event {
     let examined = outcome.examined > 0;
     match outcome.answered {
-        Answered::Total { .. } if examined => Event::TotalWorkedOut,
-        Answered::Total { rows: 0, .. } => Event::TotalEmpty,
-        Answered::Total { .. } => Event::TotalFromCache,
-        Answered::Rows { .. } if examined => Event::RowsWorkedOut,
-        Answered::Rows { .. } if no_rows(row) => Event::RowsEmpty,
-        Answered::Rows { .. } => Event::RowsFromCache,
-        Answered::Shared { .. } if examined => Event::SharedWorkedOut,
-        Answered::Shared { rows: 0 } => Event::SharedEmpty,
-        Answered::Shared { .. } => Event::SharedFromCache,
-        Answered::NotSeen => Event::NotSeen,
+        AnswerSummary::Total { .. } if examined => Event::TotalWorkedOut,
+        AnswerSummary::Total { rows: 0, .. } => Event::TotalEmpty,
+        AnswerSummary::Total { .. } => Event::TotalFromCache,
+        AnswerSummary::Rows { .. } if examined => Event::RowsWorkedOut,
+        AnswerSummary::Rows { .. } if no_rows(row) => Event::RowsEmpty,
+        AnswerSummary::Rows { .. } => Event::RowsFromCache,
+        AnswerSummary::Shared { .. } if examined => Event::SharedWorkedOut,
+        AnswerSummary::Shared { rows: 0 } => Event::SharedEmpty,
+        AnswerSummary::Shared { .. } => Event::SharedFromCache,
+        AnswerSummary::NotSeen => Event::NotSeen,
     }
 }
 

@@ -1,3 +1,4 @@
--- Lemmas on reading requests: what is read, and where it is refused.
+-- Lemmas on reading requests: where numbers fit their fields, what is read, and where it is refused.
+pub mod Fitting
 pub mod Reading
 pub mod Faults

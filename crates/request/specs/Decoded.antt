@@ -1,81 +1,58 @@
--- The request that numbers stand for, or the refusal at the lowest place at fault.
-use Rattle.std.specs.Prelude.{◌≡◌, ℕ, ◌+◌, ◌^◌, if◌then◌else◌, ◌&&◌, List, length, Ok, Err, Result, nat_lt, slice_index}
-use Rattle.std.specs.Option.{ok_or}
+-- The request that numbers stand for, or the lowest place at fault.
+use Rattle.std.specs.Prelude.{ℕ, ◌+◌, Bool, if◌then◌else◌, ◌&&◌, List, [], ◌∷◌, length, Some, None, Ok, Err, Option, Result, nat_lt, slice_index}
 use Rattle.rows.specs.declared.KeyRange.{KeyRange}
-use Rattle.base.specs.declared.refusal.Refusal.{Refusal}
-use Rattle.base.specs.declared.refusal.Refusal.TheVariants.{NoRequest}
 use Rattle.query.specs.declared.Query.{Query}
 use Rattle.query.specs.declared.Query.TheVariants.{Rows, Total, Shared}
 use Rattle.request.specs.declared.Request.{Request}
-use Rattle.request.specs.declared.Request.TheVariants.{Write, Delete, Copy}
+use Rattle.request.specs.declared.Request.TheVariants as request
+use Rattle.request.specs.declared.decoding.InvalidNumber.{InvalidNumber}
 use Rattle.request.specs.declared.kinds.Kind.{Kind}
+use Rattle.request.specs.declared.kinds.Kind.TheVariants as kind
 use Rattle.request.specs.declared.kinds.QueryKind.{QueryKind}
-use Rattle.request.specs.Kinds.{kind_numbered, query_numbered}
+use Rattle.request.specs.declared.kinds.QueryKind.TheVariants as query
+use Rattle.request.specs.declared.fields.Field.{Field}
+use Rattle.request.specs.Fields.{bound, fields, fields_of}
+use Rattle.request.specs.Kinds.{kind_in}
 
 -- a value is handed on, an error leaves
 abbrev pub and_then : {A B E : Type 0} → Result A E → (A → Result B E) → Result B E
 and_then (Ok a) f = f a
 and_then (Err e) f = Err e
 
--- the number at a place
-abbrev pub number_at : List ℕ → ℕ → Result ℕ Refusal
-number_at xs place = if nat_lt place (length xs) then Ok (slice_index xs place) else Err (NoRequest place)
+-- the number at the place is there and below the field's bound
+abbrev pub fits : Field → List ℕ → ℕ → Bool
+fits field xs place = nat_lt place (length xs) && nat_lt (slice_index xs place) (bound field)
 
--- a value that is made of a number, or the refusal if none is
-abbrev pub or_refused : {A E : Type 0} → ℕ → Result A E → Result A Refusal
-or_refused place (Ok a) = Ok a
-or_refused place (Err e) = Err (NoRequest place)
+-- the first place from this one on where the number doesn't fit its field; behind the last field if all do
+abbrev pub first_invalid : ℕ → List Field → List ℕ → ℕ
+first_invalid place [] xs = place
+first_invalid place (f ∷ fs) xs = if fits f xs place then first_invalid (place + 1) fs xs else place
 
--- what is read there is made of the number there
-abbrev pub ReadAs : {A E : Type 0} → (ℕ → Result A E → Type 0) → ℕ → Result ℕ Refusal → Result A Refusal → Type 0
-ReadAs {A} {E} gives place (Ok n) r = (made : Result A E) × gives n made × (r ≡ or_refused place made)
-ReadAs gives place (Err e) r = r ≡ Err e
+-- the number at the place and the next one
+abbrev pub range_in : List ℕ → ℕ → KeyRange
+range_in xs place = record { from = slice_index xs place; to = slice_index xs (place + 1) }
 
--- the number at a place, if it is below the bound
-abbrev pub below : ℕ → List ℕ → ℕ → Result ℕ Refusal
-below bound xs place =
-    if nat_lt place (length xs) && nat_lt (slice_index xs place) bound then Ok (slice_index xs place)
-    else Err (NoRequest place)
+abbrev pub query_in : QueryKind → List ℕ → Query
+query_in query.Rows xs = Rows (range_in xs 3)
+query_in query.Total xs = Total (range_in xs 3)
+query_in query.Shared xs = Shared (slice_index xs 3) (slice_index xs 4) (range_in xs 5)
 
-abbrev pub user_at : List ℕ → Result ℕ Refusal
-user_at xs = below 32 xs 1
+-- the request of a kind that numbers stand for, all of which fit
+abbrev pub request_in : Kind → List ℕ → Request
+request_in kind.Write xs =
+    request.Write (slice_index xs 1) (record { key = slice_index xs 2; amount = slice_index xs 3 })
+request_in kind.Delete xs = request.Delete (slice_index xs 1) (slice_index xs 2)
+request_in kind.Copy xs = request.Copy (slice_index xs 1) (slice_index xs 2) (range_in xs 3)
+request_in (kind.Query query) xs = request.Query (slice_index xs 1) (query_in query xs)
 
-abbrev pub compartment_at : List ℕ → ℕ → Result ℕ Refusal
-compartment_at xs place = below 16 xs place
+abbrev pub invalid_in : List Field → List ℕ → InvalidNumber
+invalid_in fs xs = record { place = first_invalid 0 fs xs }
 
-abbrev pub word_at : List ℕ → ℕ → Result ℕ Refusal
-word_at xs place = below (2 ^ 32) xs place
+abbrev pub decode_as : Option Kind → List ℕ → Result Request InvalidNumber
+decode_as None xs = Err (invalid_in (fields_of None) xs)
+decode_as (Some kind) xs =
+    if nat_lt (first_invalid 0 (fields kind) xs) (length (fields kind)) then Err (invalid_in (fields kind) xs)
+    else Ok (request_in kind xs)
 
--- two numbers, from the place on
-abbrev pub range_at : List ℕ → ℕ → Result KeyRange Refusal
-range_at xs place = and_then (word_at xs place) (λ from. and_then (word_at xs (place + 1)) (λ to. Ok (record { from = from; to = to })))
-
-abbrev pub kind_at : List ℕ → Result Kind Refusal
-kind_at xs = and_then (number_at xs 0) (λ n. ok_or (kind_numbered n) (NoRequest 0))
-
-abbrev pub query_kind_at : List ℕ → Result QueryKind Refusal
-query_kind_at xs = and_then (number_at xs 2) (λ n. ok_or (query_numbered n) (NoRequest 2))
-
--- the kind that a query is of
-abbrev pub kind_of : Query → QueryKind
-kind_of (Rows _) = QueryKind.Rows
-kind_of (Total _) = QueryKind.Total
-kind_of (Shared _ _ _) = QueryKind.Shared
-
-abbrev pub query_of : QueryKind → List ℕ → Result Query Refusal
-query_of QueryKind.Rows xs = and_then (range_at xs 3) (λ range. Ok (Rows range))
-query_of QueryKind.Total xs = and_then (range_at xs 3) (λ range. Ok (Total range))
-query_of QueryKind.Shared xs =
-    and_then (compartment_at xs 3) (λ a. and_then (compartment_at xs 4) (λ b. and_then (range_at xs 5) (λ range. Ok (Shared a b range))))
-
-abbrev pub request_of : Kind → ℕ → List ℕ → Result Request Refusal
-request_of Kind.Write user xs =
-    and_then (word_at xs 2) (λ key. and_then (word_at xs 3) (λ amount. Ok (Write user (record { key = key; amount = amount }))))
-request_of Kind.Delete user xs = and_then (word_at xs 2) (λ key. Ok (Delete user key))
-request_of Kind.Copy user xs =
-    and_then (compartment_at xs 2) (λ compartment. and_then (range_at xs 3) (λ range. Ok (Copy user compartment range)))
-request_of Kind.Query user xs =
-    and_then (query_kind_at xs) (λ kind. and_then (query_of kind xs) (λ query. Ok (Request.Query user query)))
-
-abbrev pub decoded : List ℕ → Result Request Refusal
-decoded xs = and_then (kind_at xs) (λ kind. and_then (user_at xs) (λ user. request_of kind user xs))
+abbrev pub decode : List ℕ → Result Request InvalidNumber
+decode xs = decode_as (kind_in xs) xs

@@ -1,5 +1,6 @@
 -- What the contracts of this crate cite.
 pub mod Kinds
+pub mod Fields
 pub mod Decoded
 pub mod Format
 pub mod Who

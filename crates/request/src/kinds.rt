@@ -1,20 +1,21 @@
-// The kinds of requests and of queries, and their numbers in the format.
-ghost use Rattle.request.specs.Decoded.{kind_of};
+// The kinds of requests and of queries, and the numbers that say which.
+ghost use Rattle.request.specs.Format.{kind_of, kind_of_query};
 ghost use Rattle.request.specs.Kinds.{kind_number, kind_numbered, query_number, query_numbered};
-ghost use Rattle.std.specs.Prelude.{◌≡◌, ok_or};
+ghost use Rattle.std.specs.Prelude.{◌≡◌};
 
+use crate::Request;
 use query::Query;
 
-// The kinds of requests, by their numbers.
+/// The kinds of requests.
 #[derive(Clone, Copy, PartialEq, Eq, Debug)]
 pub enum Kind {
-    Write = 0,
-    Delete = 1,
-    Copy = 2,
-    Query = 3,
+    Write,
+    Delete,
+    Copy,
+    Query(QueryKind),
 }
 
-// The kinds of queries, by their numbers.
+/// The kinds of queries, by their numbers.
 #[derive(Clone, Copy, PartialEq, Eq, Debug)]
 pub enum QueryKind {
     Rows = 0,
@@ -22,15 +23,43 @@ pub enum QueryKind {
     Shared = 2,
 }
 
-// A number that no kind has.
-#[derive(Clone, Copy, PartialEq, Eq, Debug)]
-pub struct UnknownKind(pub u64);
+impl Kind {
+    /// The kind of a request whose first and third number are these, as far as they are there: a query says by the
+    /// third of which kind it is.
+    pub fn of(first: Option<u64>, third: Option<u64>) -> Option<Kind>
+        ensures { result ≡ kind_numbered first third }
+    {
+        match first? {
+            0 => Some(Kind::Write),
+            1 => Some(Kind::Delete),
+            2 => Some(Kind::Copy),
+            3 => third.and_then(query_numbered).map(Kind::Query),
+            _ => None,
+        }
+    }
+}
+
+fn query_numbered(number: u64) -> Option<QueryKind>
+    ensures { result ≡ query_numbered number }
+{
+    match number {
+        0 => Some(QueryKind::Rows),
+        1 => Some(QueryKind::Total),
+        2 => Some(QueryKind::Shared),
+        _ => None,
+    }
+}
 
 impl From<Kind> for u64 {
     ghost from_gives = { λ kind number. number ≡ kind_number kind };
 
     fn from(kind: Kind) -> u64 {
-        kind as u64
+        match kind {
+            Kind::Write => 0,
+            Kind::Delete => 1,
+            Kind::Copy => 2,
+            Kind::Query(_) => 3,
+        }
     }
 }
 
@@ -43,7 +72,7 @@ impl From<QueryKind> for u64 {
 }
 
 impl From<Query> for QueryKind {
-    ghost from_gives = { λ query kind. kind ≡ kind_of query };
+    ghost from_gives = { λ query kind. kind ≡ kind_of_query query };
 
     fn from(query: Query) -> QueryKind {
         match query {
@@ -54,34 +83,15 @@ impl From<Query> for QueryKind {
     }
 }
 
-// `as` gives the number of a kind, and nothing gives a kind of a number: so each kind has an arm, and each of the two enums its conversions.
-impl TryFrom<u64> for Kind {
-    type Error = UnknownKind;
+impl From<Request> for Kind {
+    ghost from_gives = { λ request kind. kind ≡ kind_of request };
 
-    ghost try_from_gives = { λ number kind. kind ≡ ok_or (kind_numbered number) (record { 0 = number }) };
-
-    fn try_from(number: u64) -> Result<Kind, UnknownKind> {
-        match number {
-            0 => Ok(Kind::Write),
-            1 => Ok(Kind::Delete),
-            2 => Ok(Kind::Copy),
-            3 => Ok(Kind::Query),
-            _ => Err(UnknownKind(number)),
-        }
-    }
-}
-
-impl TryFrom<u64> for QueryKind {
-    type Error = UnknownKind;
-
-    ghost try_from_gives = { λ number kind. kind ≡ ok_or (query_numbered number) (record { 0 = number }) };
-
-    fn try_from(number: u64) -> Result<QueryKind, UnknownKind> {
-        match number {
-            0 => Ok(QueryKind::Rows),
-            1 => Ok(QueryKind::Total),
-            2 => Ok(QueryKind::Shared),
-            _ => Err(UnknownKind(number)),
+    fn from(request: Request) -> Kind {
+        match request {
+            Request::Write { .. } => Kind::Write,
+            Request::Delete { .. } => Kind::Delete,
+            Request::Copy { .. } => Kind::Copy,
+            Request::Query { query, .. } => Kind::Query(query.into()),
         }
     }
 }

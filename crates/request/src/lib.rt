@@ -1,43 +1,42 @@
-// What users ask of the store, as values, and how they are read from numbers.
+//! What users ask of the store, as values, and how they are read from numbers and written as numbers.
 #![tactic(auto)]
 
-ghost use Rattle.request.specs.Decoded.{decoded, query_of, request_of};
-ghost use Rattle.request.specs.Who.{who, asks};
-ghost use Rattle.std.specs.Prelude.{◌≡◌};
+ghost use Rattle.request.specs.Format.{kind_of_query, numbers_of, query_numbers};
+ghost use Rattle.request.specs.Kinds.{query_number};
+ghost use Rattle.request.specs.Who.{asks, who};
+ghost use Rattle.std.specs.Prelude.{◌≡◌, ◌-◌, ◌++◌, ◌∷◌, length, replicate};
 
+mod decoding;
+mod fields;
 mod kinds;
-mod laws;
-mod places;
+pub mod laws;
 
-use base::{COMPARTMENTS, Refusal, USERS};
-pub use kinds::{Kind, QueryKind, UnknownKind};
-pub use laws::{
-    lowest_fault_stands, read_without_fault_stands, reads_what_stands, round_trip_stands,
-};
-use places::Numbers;
+pub use decoding::{InvalidNumber, decode, decode_as};
+pub use fields::{Field, MOST_FIELDS, fields_of};
+pub use kinds::{Kind, QueryKind};
 use query::Query;
 use rows::{KeyRange, Row};
 
-// A request, with the user who makes it.
+/// A request, with the user who makes it.
 #[derive(Clone, Copy, PartialEq, Eq, Debug)]
 pub enum Request {
-    // The row comes into the compartment in which the user writes.
+    /// The row comes into the compartment in which the user writes.
     Write {
         user: usize,
         row: Row,
     },
-    // The row with the key goes from there.
+    /// The row with the key goes from there.
     Delete {
         user: usize,
         key: u32,
     },
-    // The rows of a range of a compartment come there too.
+    /// The rows of a range of a compartment come there too.
     Copy {
         user: usize,
         compartment: u64,
         range: KeyRange,
     },
-    // A query over what the user sees.
+    /// A query over what the user sees.
     Query {
         user: usize,
         query: Query,
@@ -45,7 +44,7 @@ pub enum Request {
 }
 
 impl Request {
-    // Who makes it.
+    /// Who makes it.
     pub fn user(self) -> usize
         ensures { result ≡ who self }
     {
@@ -57,70 +56,73 @@ impl Request {
         }
     }
 
-    // Whether it asks, and so changes nothing that anybody else sees.
+    /// Whether it asks, and so changes nothing that anybody else sees.
     pub fn is_query(self) -> bool
         ensures { result ≡ asks self }
     {
         matches!(self, Request::Query { .. })
     }
-}
 
-// The request that the numbers stand for, or the refusal at the lowest place at fault; numbers behind the last one are not looked at.
-pub fn decode(numbers: &[u64]) -> Result<Request, Refusal>
-    ensures { result ≡ decoded numbers.now }
-{
-    let numbers = Numbers { all: numbers };
-    let kind = numbers.value(0)?;
-    let user = numbers.below(1, USERS)? as usize;
-    decode_as(kind, user, numbers)
-}
-
-// `notation` reads a line by the same kinds, but words stand at other places there, are refused for other reasons, and have to end.
-fn decode_as(kind: Kind, user: usize, numbers: Numbers) -> Result<Request, Refusal>
-    ensures { result ≡ request_of kind user numbers.entry.all.now }
-{
-    match kind {
-        Kind::Write => {
-            let key = numbers.value(2)?;
-            let amount = numbers.value(3)?;
-            Ok(Request::Write {
-                user,
-                row: Row { key, amount },
-            })
-        }
-        Kind::Delete => {
-            let key = numbers.value(2)?;
-            Ok(Request::Delete { user, key })
-        }
-        Kind::Copy => {
-            let compartment = numbers.below(2, COMPARTMENTS)?;
-            let range = numbers.range(3)?;
-            Ok(Request::Copy {
+    /// The numbers that it is written as, and 0 behind the last of its fields.
+    pub fn numbers(self) -> [u64; MOST_FIELDS]
+        ensures { result ≡ numbers_of self ++ replicate (7 - length (numbers_of self)) 0 }
+    {
+        let kind = Kind::from(self).into();
+        match self {
+            Request::Write { user, row } => {
+                [
+                    kind,
+                    user as u64,
+                    row.key.into(),
+                    row.amount.into(),
+                    0,
+                    0,
+                    0,
+                ]
+            }
+            Request::Delete { user, key } => [kind, user as u64, key.into(), 0, 0, 0, 0],
+            Request::Copy {
                 user,
                 compartment,
                 range,
-            })
-        }
-        Kind::Query => {
-            let kind = numbers.value(2)?;
-            let query = decode_query(kind, numbers)?;
-            Ok(Request::Query { user, query })
+            } => [
+                kind,
+                user as u64,
+                compartment,
+                range.from.into(),
+                range.to.into(),
+                0,
+                0,
+            ],
+            Request::Query { user, query } => query_numbers(kind, user as u64, query),
         }
     }
 }
 
-fn decode_query(kind: QueryKind, numbers: Numbers) -> Result<Query, Refusal>
-    ensures { result ≡ query_of kind numbers.entry.all.now }
+fn query_numbers(kind: u64, user: u64, query: Query) -> [u64; MOST_FIELDS]
+    ensures { result ≡ (kind ∷ user ∷ query_number (kind_of_query query) ∷ query_numbers query)
+        ++ replicate (4 - length (query_numbers query)) 0 }
 {
-    match kind {
-        QueryKind::Rows => numbers.range(3).map(|range| Query::Rows { range }),
-        QueryKind::Total => numbers.range(3).map(|range| Query::Total { range }),
-        QueryKind::Shared => {
-            let a = numbers.below(3, COMPARTMENTS)?;
-            let b = numbers.below(4, COMPARTMENTS)?;
-            let range = numbers.range(5)?;
-            Ok(Query::Shared { a, b, range })
-        }
+    let query_kind = QueryKind::from(query).into();
+    match query {
+        Query::Rows { range } | Query::Total { range } => [
+            kind,
+            user,
+            query_kind,
+            range.from.into(),
+            range.to.into(),
+            0,
+            0,
+        ],
+        Query::Shared { a, b, range } => [
+            kind,
+            user,
+            query_kind,
+            a,
+            b,
+            range.from.into(),
+            range.to.into(),
+        ],
     }
 }
 
@@ -129,10 +131,7 @@ mod tests {
     use super::*;
 
     fn refused_at(numbers: &[u64]) -> Option<usize> {
-        match decode(numbers) {
-            Err(Refusal::NoRequest { place }) => Some(place),
-            _ => None,
-        }
+        decode(numbers).err().map(|invalid| invalid.place)
     }
 
     #[test]
@@ -170,15 +169,17 @@ mod tests {
     }
 
     #[test]
-    fn kinds_have_their_numbers(rt: HostRuntime) {
-        for kind in [Kind::Write, Kind::Delete, Kind::Copy, Kind::Query] {
-            assert_eq!(rt; Kind::try_from(u64::from(kind)), Ok(kind));
+    fn writes_what_it_reads(rt: HostRuntime) {
+        let written: [[u64; MOST_FIELDS]; 6] = [
+            [0, 31, 1, 2, 0, 0, 0],
+            [1, 30, 3, 0, 0, 0, 0],
+            [2, 29, 15, 4, 5, 0, 0],
+            [3, 28, 0, 6, 7, 0, 0],
+            [3, 27, 1, 8, 9, 0, 0],
+            [3, 26, 2, 14, 13, 10, 11],
+        ];
+        for numbers in written {
+            assert_eq!(rt; decode(&numbers).map(Request::numbers), Ok(numbers));
         }
-        for kind in [QueryKind::Rows, QueryKind::Total, QueryKind::Shared] {
-            assert_eq!(rt; QueryKind::try_from(u64::from(kind)), Ok(kind));
-        }
-        assert_eq!(rt; u64::from(Kind::Copy), 2);
-        assert_eq!(rt; Kind::try_from(4), Err(UnknownKind(4)));
-        assert_eq!(rt; QueryKind::try_from(3), Err(UnknownKind(3)));
     }
 }

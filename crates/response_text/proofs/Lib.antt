@@ -1,3 +1,3 @@
 -- Lemmas on what the functions write.
 pub mod Pairs
-pub mod Turns
+pub mod Separated

@@ -1,7 +1,7 @@
 -- A list of rows is the first of those that are left.
 use Rattle.std.proofs.Common.{◌≡◌, ℕ, ◌+◌, ◌<◌, min, List, ◌∷◌, map, length, get_or, take, drop, refl, sym, ap, ◌∙◌}
 use Rattle.std.proofs.lemmas.List.{drop_more, take_min, drop_min, take-map, drop-map}
-use Rattle.query.specs.Numbers.{split}
+use Rattle.query.specs.AnswerRows.{split}
 use Rattle.rows.specs.Halving.{pair_row}
 
 -- `list` are the first n rows and `behind` those behind them, or all and none if there are no more

@@ -1,2 +1,2 @@
 -- What the contracts of this crate cite.
-pub mod Words
+pub mod Lines

@@ -1,41 +1,56 @@
-// An answer in words, read out of the answer row.
-ghost use Rattle.std.specs.Prelude.{◌≡◌, Some, map, drop};
-ghost use Rattle.query.specs.Numbers.{read_answer};
+// An answer and the rows examined, read out of the answer row.
+ghost use Rattle.std.specs.Prelude.{◌≡◌, map, drop};
+ghost use Rattle.output.specs.Output.{Writes};
+ghost use Rattle.query.specs.AnswerRows.{read_answer};
+ghost use Rattle.response_text.specs.Lines.{answer_bytes, outcome_bytes, total_bytes};
 ghost use Rattle.rows.specs.Halving.{pair_row, rows_of};
-ghost use Rattle.response_text.specs.Words.{answer_bytes};
 
-use super::lists::{List, Lists};
-use query::{Answered, HEADER};
-use std::fmt;
+use super::lists::{write_list, write_lists};
+use output::{Output, Piece};
+use query::{AnswerSummary, HEADER, Outcome};
+use std::io::{self, Write};
 
-// An answer, and the answer row in which its rows stand, if there are any.
-#[derive(Clone, Copy)]
-pub(crate) struct Answer<'a> {
-    pub(crate) answered: Answered,
-    pub(crate) row: &'a [u64],
+pub(crate) fn write_outcome<W: Write>(
+    out: &mut Output<W>,
+    outcome: Outcome,
+    row: &[u64],
+) -> io::Result<()>
+    ensures { Writes out.old out.new result (outcome_bytes (read_answer outcome.answered row.now) outcome.examined) }
+{
+    write_answer(out, outcome.answered, row)?;
+    let examined = Piece::Number(outcome.examined as u128);
+    out.write(&[Piece::Text(" looked at "), examined])
 }
 
-impl fmt::Display for Answer<'_> {
-    ghost output = { λ a. Some (answer_bytes (read_answer a.answered a.row.now)) };
-
-    fn fmt<W: fmt::Write>(&self, f: &mut fmt::Formatter<W>) -> fmt::Result {
-        let row = self.row;
-        match self.answered {
-            Answered::Rows { compartments } => {
-                let counts = &row[..compartments.min(row.len())];
-                let rows = behind_header(row);
-                write!(f, "{}", Lists { counts, rows })
-            }
-            // A single row is one row.
-            Answered::Total { rows: 1, amount } => write!(f, "1 row {amount}"),
-            Answered::Total { rows, amount } => write!(f, "{rows} rows {amount}"),
-            Answered::Shared { rows: count } => {
-                let rows = behind_header(row);
-                let rows = &rows[..count.min(rows.len())];
-                write!(f, "{}", List { rows })
-            }
-            Answered::NotSeen => write!(f, "not seen"),
+fn write_answer<W: Write>(
+    out: &mut Output<W>,
+    answered: AnswerSummary,
+    row: &[u64],
+) -> io::Result<()>
+    ensures { Writes out.old out.new result (answer_bytes (read_answer answered row.now)) }
+{
+    match answered {
+        AnswerSummary::Rows { compartments } => {
+            let counts = &row[..compartments.min(row.len())];
+            write_lists(out, counts, behind_header(row))
         }
+        AnswerSummary::Total { rows, amount } => write_total(out, rows, amount),
+        AnswerSummary::Shared { rows: count } => {
+            let rows = behind_header(row);
+            write_list(out, &rows[..count.min(rows.len())])
+        }
+        AnswerSummary::NotSeen => out.write(&[Piece::Text("not seen")]),
+    }
+}
+
+// A single row is one row.
+fn write_total<W: Write>(out: &mut Output<W>, rows: usize, amount: u64) -> io::Result<()>
+    ensures { Writes out.old out.new result (total_bytes rows amount) }
+{
+    let sum = Piece::Number(u128::from(amount));
+    match rows {
+        1 => out.write(&[Piece::Text("1 row "), sum]),
+        _ => out.write(&[Piece::Number(rows as u128), Piece::Text(" rows "), sum]),
     }
 }
 

@@ -1,10 +1,9 @@
-// What a user is told, in words: a line of text for each response.
+//! What a user is told, as text: a line for each response, written to an output.
 #![tactic(auto)]
 
-ghost use Rattle.std.specs.Prelude.{◌≡◌, ◌++◌, string_bytes, OnOk};
-ghost use Rattle.model.specs.Model.{done, refused, answered};
-ghost use Rattle.query.specs.Numbers.{read_answer};
-ghost use Rattle.response_text.specs.Words.{line};
+ghost use Rattle.output.specs.Output.{Writes};
+ghost use Rattle.response_text.specs.Lines.{line, response_bytes};
+ghost use Rattle.store.specs.Served.{response_in};
 
 mod answers;
 mod lists;
@@ -12,41 +11,37 @@ mod reasons;
 #[cfg(test)]
 mod tests;
 
-use answers::Answer;
+use answers::write_outcome;
 use base::Refusal;
-use query::Outcome;
-use reasons::Reason;
-use std::alloc::AllocError;
-use std::fmt::Write;
+use output::{Output, Piece};
+use reasons::write_reason;
+use std::io::{self, Write};
+use store::Reply;
 
-// Each of these writes a line behind the text. Where memory runs out, a part of the line may stand there.
-// What the text holds afterwards is said in std's words in each clause: a word of our own for it would have to be looked up, and says no more.
-
-// The request is done.
-pub fn push_done_line(text: &mut String, user: usize) -> Result<(), AllocError>
-    ensures { OnOk result (string_bytes text.new ≡ string_bytes text.old ++ line user done) }
-{
-    writeln!(text, "{user}: done")
-}
-
-// The request is refused.
-pub fn push_refused_line(text: &mut String, user: usize, refusal: Refusal) -> Result<(), AllocError>
-    ensures { OnOk result (string_bytes text.new ≡ string_bytes text.old ++ line user (refused refusal)) }
-{
-    let reason = Reason { refusal };
-    writeln!(text, "{user}: {reason}")
-}
-
-// The query is answered, and its rows, if there are any, stand in the answer row.
-pub fn push_answered_line(
-    text: &mut String,
+/// Writes the line of a response. Rows of an answer stand in the answer row.
+pub fn write_line<W: Write>(
+    out: &mut Output<W>,
     user: usize,
-    outcome: Outcome,
+    response: Result<Reply, Refusal>,
     row: &[u64],
-) -> Result<(), AllocError>
-    ensures { OnOk result (string_bytes text.new ≡ string_bytes text.old ++ line user (answered (read_answer outcome.answered row.now) outcome.examined)) }
+) -> io::Result<()>
+    ensures { Writes out.old out.new result (line user (response_in response row.now)) }
 {
-    let Outcome { answered, examined } = outcome;
-    let answer = Answer { answered, row };
-    writeln!(text, "{user}: {answer} looked at {examined}")
+    out.write(&[Piece::Number(user as u128), Piece::Text(": ")])?;
+    write_response(out, response, row)?;
+    out.write(&[Piece::Text("\n")])
+}
+
+fn write_response<W: Write>(
+    out: &mut Output<W>,
+    response: Result<Reply, Refusal>,
+    row: &[u64],
+) -> io::Result<()>
+    ensures { Writes out.old out.new result (response_bytes (response_in response row.now)) }
+{
+    match response {
+        Ok(Reply::Done) => out.write(&[Piece::Text("done")]),
+        Ok(Reply::Answered { outcome }) => write_outcome(out, outcome, row),
+        Err(refusal) => write_reason(out, refusal),
+    }
 }

@@ -1,27 +1,32 @@
-// Why a request is refused, in words.
-ghost use Rattle.std.specs.Prelude.{Some};
-ghost use Rattle.response_text.specs.Words.{refusal_bytes};
+// Why a request is refused.
+ghost use Rattle.base.specs.Refusals.{refusal_line};
+ghost use Rattle.output.specs.Output.{Writes};
+ghost use Rattle.response_text.specs.Lines.{refusal_bytes};
 
 use base::Refusal;
-use std::fmt;
+use output::{Output, Piece};
+use std::io::{self, Write};
 
 // A refusal as a user is told of it.
-#[derive(Clone, Copy)]
-pub(crate) struct Reason {
-    pub(crate) refusal: Refusal,
+pub(crate) fn write_reason<W: Write>(out: &mut Output<W>, refusal: Refusal) -> io::Result<()>
+    ensures { Writes out.old out.new result (refusal_bytes refusal) }
+{
+    match refusal {
+        Refusal::NoRequest { place } => {
+            out.write(&[Piece::Text("no deed at "), Piece::Number(place as u128)])
+        }
+        Refusal::NoUser { .. } | Refusal::NoFlow { .. } => out.write(&[Piece::Text("not allowed")]),
+        Refusal::NoRoom { .. } => out.write(&[Piece::Text("no room")]),
+        Refusal::NoRow { .. } => out.write(&[Piece::Text("no row")]),
+        _ => write_refusal(out, refusal),
+    }
 }
 
-impl fmt::Display for Reason {
-    ghost output = { λ r. Some (refusal_bytes r.refusal) };
-
-    fn fmt<W: fmt::Write>(&self, f: &mut fmt::Formatter<W>) -> fmt::Result {
-        let refusal = self.refusal;
-        match refusal {
-            Refusal::NoRequest { place } => write!(f, "no deed at {place}"),
-            Refusal::NoUser { .. } | Refusal::NoFlow { .. } => write!(f, "not allowed"),
-            Refusal::NoRoom { .. } => write!(f, "no room"),
-            Refusal::NoRow { .. } => write!(f, "no row"),
-            _ => write!(f, "{refusal}"),
-        }
-    }
+// A refusal by its number and its place.
+fn write_refusal<W: Write>(out: &mut Output<W>, refusal: Refusal) -> io::Result<()>
+    ensures { Writes out.old out.new result (refusal_line refusal) }
+{
+    let number = Piece::Number(u128::from(refusal.number()));
+    let place = Piece::Number(refusal.place());
+    out.write(&[Piece::Text("refused "), number, Piece::Text(" at "), place])
 }

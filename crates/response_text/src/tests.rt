@@ -1,66 +1,77 @@
 // Each kind of response, with its words worked out by hand.
 use super::*;
-use query::Answered;
+use query::{AnswerSummary, Outcome};
 use std::test::Fail;
 
 #[test]
 fn tells_what_is_done(rt: HostRuntime) -> Result<(), Fail> {
-    let mut text = String::new(rt.alloc());
-    push_done_line(&mut text, 0)?;
-    push_done_line(&mut text, 31)?;
-    assert!(rt; text.as_str() == "0: done\n31: done\n");
+    let mut text = Vec::new(rt.alloc());
+    let mut out = Output::new(&mut text);
+    write_line(&mut out, 0, Ok(Reply::Done), &[])?;
+    write_line(&mut out, 31, Ok(Reply::Done), &[])?;
+    assert!(rt; text.as_slice() == b"0: done\n31: done\n".as_slice());
     Ok(())
 }
 
 #[test]
 fn tells_refusals(rt: HostRuntime) -> Result<(), Fail> {
-    let mut text = String::new(rt.alloc());
-    push_refused_line(&mut text, 9, Refusal::NoUser { user: 9 })?;
-    push_refused_line(&mut text, 1, Refusal::NoFlow { compartment: 3 })?;
-    push_refused_line(&mut text, 1, Refusal::NoRoom { capacity: 64 })?;
-    push_refused_line(&mut text, 1, Refusal::NoRow { key: 5 })?;
-    push_refused_line(&mut text, 77, Refusal::NoRequest { place: 1 })?;
+    let mut text = Vec::new(rt.alloc());
+    let mut out = Output::new(&mut text);
+    write_line(&mut out, 9, Err(Refusal::NoUser { user: 9 }), &[])?;
+    write_line(&mut out, 1, Err(Refusal::NoFlow { compartment: 3 }), &[])?;
+    write_line(&mut out, 1, Err(Refusal::NoRoom { capacity: 64 }), &[])?;
+    write_line(&mut out, 1, Err(Refusal::NoRow { key: 5 }), &[])?;
+    write_line(&mut out, 77, Err(Refusal::NoRequest { place: 1 }), &[])?;
     assert!(rt;
-        text.as_str() == "9: not allowed\n1: not allowed\n1: no room\n1: no row\n77: no deed at 1\n"
+        text.as_slice()
+            == b"9: not allowed\n1: not allowed\n1: no room\n1: no row\n77: no deed at 1\n".as_slice()
     );
     Ok(())
 }
 
 #[test]
 fn tells_other_refusals_by_number(rt: HostRuntime) -> Result<(), Fail> {
-    let mut text = String::new(rt.alloc());
-    push_refused_line(&mut text, 1, Refusal::OutOfBounds { place: 20 })?;
-    push_refused_line(&mut text, 1, Refusal::BadView { user: 2 })?;
-    push_refused_line(&mut text, 1, Refusal::ShortRow { length: 40 })?;
-    push_refused_line(&mut text, 1, Refusal::LastVersion { compartment: 15 })?;
+    let mut text = Vec::new(rt.alloc());
+    let mut out = Output::new(&mut text);
+    write_line(&mut out, 1, Err(Refusal::OutOfBounds { place: 20 }), &[])?;
+    write_line(&mut out, 1, Err(Refusal::BadView { user: 2 }), &[])?;
+    write_line(&mut out, 1, Err(Refusal::ShortRow { length: 40 }), &[])?;
+    write_line(
+        &mut out,
+        1,
+        Err(Refusal::LastVersion { compartment: 15 }),
+        &[],
+    )?;
     assert!(rt;
-        text.as_str()
-            == "1: refused 1 at 20\n1: refused 2 at 2\n1: refused 7 at 40\n1: refused 8 at 15\n"
+        text.as_slice()
+            == b"1: refused 1 at 20\n1: refused 2 at 2\n1: refused 7 at 40\n1: refused 8 at 15\n".as_slice()
     );
     Ok(())
 }
 
-fn push_answer(
-    text: &mut String,
-    answered: Answered,
+fn write_answer_line<W: Write>(
+    out: &mut Output<W>,
+    answered: AnswerSummary,
     examined: usize,
     row: &[u64],
-) -> Result<(), AllocError> {
-    push_answered_line(text, 2, Outcome { answered, examined }, row)
+) -> io::Result<()> {
+    let outcome = Outcome { answered, examined };
+    write_line(out, 2, Ok(Reply::Answered { outcome }), row)
 }
 
 #[test]
 fn tells_totals(rt: HostRuntime) -> Result<(), Fail> {
-    let mut text = String::new(rt.alloc());
+    let mut text = Vec::new(rt.alloc());
+    let mut out = Output::new(&mut text);
     let (rows, amount) = (3, 160);
-    push_answer(&mut text, Answered::Total { rows, amount }, 3, &[])?;
+    write_answer_line(&mut out, AnswerSummary::Total { rows, amount }, 3, &[])?;
     let (rows, amount) = (1, 10);
-    push_answer(&mut text, Answered::Total { rows, amount }, 0, &[])?;
+    write_answer_line(&mut out, AnswerSummary::Total { rows, amount }, 0, &[])?;
     let (rows, amount) = (0, 0);
-    push_answer(&mut text, Answered::Total { rows, amount }, 0, &[])?;
+    write_answer_line(&mut out, AnswerSummary::Total { rows, amount }, 0, &[])?;
     assert!(rt;
-        text.as_str()
-            == "2: 3 rows 160 looked at 3\n2: 1 row 10 looked at 0\n2: 0 rows 0 looked at 0\n"
+        text.as_slice()
+            == b"2: 3 rows 160 looked at 3\n2: 1 row 10 looked at 0\n2: 0 rows 0 looked at 0\n".as_slice()
     );
     Ok(())
 }
@@ -76,43 +87,47 @@ fn example() -> [u64; 39] {
 
 #[test]
 fn tells_lists(rt: HostRuntime) -> Result<(), Fail> {
-    let mut text = String::new(rt.alloc());
+    let mut text = Vec::new(rt.alloc());
+    let mut out = Output::new(&mut text);
     let row = example();
-    push_answer(&mut text, Answered::Rows { compartments: 3 }, 3, &row)?;
-    push_answer(&mut text, Answered::Rows { compartments: 2 }, 2, &row)?;
-    push_answer(&mut text, Answered::Rows { compartments: 0 }, 0, &row)?;
+    write_answer_line(&mut out, AnswerSummary::Rows { compartments: 3 }, 3, &row)?;
+    write_answer_line(&mut out, AnswerSummary::Rows { compartments: 2 }, 2, &row)?;
+    write_answer_line(&mut out, AnswerSummary::Rows { compartments: 0 }, 0, &row)?;
     assert!(rt;
-        text.as_str()
-            == "2: [5:70 6:80] [] [5:10] looked at 3\n2: [5:70 6:80] [] looked at 2\n2:  looked at 0\n"
+        text.as_slice()
+            == b"2: [5:70 6:80] [] [5:10] looked at 3\n2: [5:70 6:80] [] looked at 2\n2:  looked at 0\n".as_slice()
     );
     Ok(())
 }
 
 #[test]
 fn tells_what_is_shared(rt: HostRuntime) -> Result<(), Fail> {
-    let mut text = String::new(rt.alloc());
+    let mut text = Vec::new(rt.alloc());
+    let mut out = Output::new(&mut text);
     let row = example();
-    push_answer(&mut text, Answered::Shared { rows: 1 }, 5, &row)?;
-    push_answer(&mut text, Answered::Shared { rows: 0 }, 5, &row)?;
-    push_answer(&mut text, Answered::NotSeen, 0, &row)?;
+    write_answer_line(&mut out, AnswerSummary::Shared { rows: 1 }, 5, &row)?;
+    write_answer_line(&mut out, AnswerSummary::Shared { rows: 0 }, 5, &row)?;
+    write_answer_line(&mut out, AnswerSummary::NotSeen, 0, &row)?;
     assert!(rt;
-        text.as_str() == "2: [5:70] looked at 5\n2: [] looked at 5\n2: not seen looked at 0\n"
+        text.as_slice()
+            == b"2: [5:70] looked at 5\n2: [] looked at 5\n2: not seen looked at 0\n".as_slice()
     );
     Ok(())
 }
 
-// Counts of more rows than there are, and a header that is cut short.
+// Counts of more rows than there are, and a header that is truncated.
 #[test]
 fn tells_what_is_there(rt: HostRuntime) -> Result<(), Fail> {
-    let mut text = String::new(rt.alloc());
+    let mut text = Vec::new(rt.alloc());
+    let mut out = Output::new(&mut text);
     let mut row = example();
-    push_answer(&mut text, Answered::Shared { rows: 4 }, 0, &row)?;
+    write_answer_line(&mut out, AnswerSummary::Shared { rows: 4 }, 0, &row)?;
     row[0] = u64::MAX;
-    push_answer(&mut text, Answered::Rows { compartments: 2 }, 0, &row)?;
-    push_answer(&mut text, Answered::Rows { compartments: 2 }, 0, &[7])?;
+    write_answer_line(&mut out, AnswerSummary::Rows { compartments: 2 }, 0, &row)?;
+    write_answer_line(&mut out, AnswerSummary::Rows { compartments: 2 }, 0, &[7])?;
     assert!(rt;
-        text.as_str()
-            == "2: [5:70 6:80 5:10] looked at 0\n2: [5:70 6:80 5:10] [] looked at 0\n2: [] looked at 0\n"
+        text.as_slice()
+            == b"2: [5:70 6:80 5:10] looked at 0\n2: [5:70 6:80 5:10] [] looked at 0\n2: [] looked at 0\n".as_slice()
     );
     Ok(())
 }

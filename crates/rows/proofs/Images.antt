@@ -5,9 +5,9 @@ use Rattle.std.proofs.lemmas.List.{append_assoc, drop-drop, length-append}
 use Rattle.std.proofs.lemmas.Bool.{cases_Bool, cases_lt, lt-ltb, le-ltb, le-leb, lt-leb}
 use Rattle.rows.specs.declared.Row.{Row}
 use Rattle.rows.specs.declared.KeyRange.{KeyRange}
-use Rattle.rows.specs.Rows.{Up, has_key, smaller, rows_in, also_in}
+use Rattle.rows.specs.Rows.{SortedFrom, has_key, smaller, rows_in, also_in}
 use Rattle.rows.specs.Halving.{flat}
-use Rattle.rows.specs.Numbers.{opened, closed, in_front, skipped, first_is, merged}
+use Rattle.rows.specs.Numbers.{insert_row, remove_row, in_front, from_key, first_is, intersection}
 use Rattle.rows.proofs.Orders.{up_lower, smaller_none, key_none}
 use Rattle.rows.proofs.Places.{flat_append, take_flat, drop_flat}
 
@@ -24,7 +24,7 @@ module _ (before behind : List Row) (rest : List ℕ) where
   split_flat = rw (flat_append before behind) (append_assoc (flat before) (flat behind) rest)
 
   pub opened_flat : (r : Row)
-      → opened (length before) (length (before ++ behind)) r (flat (before ++ behind) ++ rest)
+      → insert_row (length before) (length (before ++ behind)) r (flat (before ++ behind) ++ rest)
       ≡ flat (before ++ (r ∷ behind)) ++ drop (2 * length (before ++ behind) + 2) (flat (before ++ behind) ++ rest)
   opened_flat r =
       let n : 2 * length (before ++ behind) - 2 * length before ≡ 2 * length behind = omega (arith, length-append before behind) in
@@ -39,7 +39,7 @@ module _ (before behind : List Row) (rest : List ℕ) where
       ) refl
 
 pub closed_flat : (before : List Row) (x : Row) (behind : List Row) (rest : List ℕ)
-    → closed (length before) (length (before ++ (x ∷ behind))) (flat (before ++ (x ∷ behind)) ++ rest) ≡ in_front (before ++ behind) (flat (before ++ (x ∷ behind)) ++ rest)
+    → remove_row (length before) (length (before ++ (x ∷ behind))) (flat (before ++ (x ∷ behind)) ++ rest) ≡ in_front (before ++ behind) (flat (before ++ (x ∷ behind)) ++ rest)
 closed_flat before x behind rest =
     let n : 2 * length (before ++ (x ∷ behind)) - (2 * length before + 2) ≡ 2 * length behind = omega (arith, length-append before (x ∷ behind)) in
     let m : 2 * length (before ++ behind) ≡ 2 * length before + 2 * length behind = omega (arith, length-append before behind) in
@@ -70,7 +70,7 @@ flat_drop (suc n) (x ∷ xs) =
     rw e (flat_drop n xs)
 
 -- the rows of a range stand between the smaller ones and those above
-pub between_is_rows_in : (range : KeyRange) (low : ℕ) (rs : List Row) → Up low rs
+pub between_is_rows_in : (range : KeyRange) (low : ℕ) (rs : List Row) → SortedFrom low rs
     → take (max (smaller range.from rs) (smaller (range.to + 1) rs) - smaller range.from rs) (drop (smaller range.from rs) rs) ≡ rows_in range rs
 between_is_rows_in range low [] u = refl
 between_is_rows_in range low (x ∷ xs) u =
@@ -104,35 +104,35 @@ between_is_rows_in range low (x ∷ xs) u =
     ]
 
 -- one pass over both
-up_skipped : (k low : ℕ) (ys : List Row) → Up low ys → Up low (skipped k ys)
+up_skipped : (k low : ℕ) (ys : List Row) → SortedFrom low ys → SortedFrom low (from_key k ys)
 up_skipped k low [] u = tt
 up_skipped k low (y ∷ ys) u =
     elim (cases_Bool (ltb y.key k)) [
-      | inl e ↦ rw e (up_lower low _ (skipped k ys) (omega arith) (up_skipped k (suc y.key) ys u.1))
+      | inl e ↦ rw e (up_lower low _ (from_key k ys) (omega arith) (up_skipped k (suc y.key) ys u.1))
       | inr e ↦ rw e u
     ]
 
-first_skipped : (k low : ℕ) (ys : List Row) → Up low ys → first_is k (skipped k ys) ≡ has_key k ys
+first_skipped : (k low : ℕ) (ys : List Row) → SortedFrom low ys → first_is k (from_key k ys) ≡ has_key k ys
 first_skipped k low [] u = refl
 first_skipped k low (y ∷ ys) u =
     let i = first_skipped k (suc y.key) ys u.1 in
     let n : k < y.key → has_key k ys ≡ false = λ l. key_none k (suc y.key) ys (omega arith) u.1 in
     grind (arith, nat_tests)
 
-key_skipped : (k j : ℕ) (ys : List Row) → k ≤ j → has_key j (skipped k ys) ≡ has_key j ys
+key_skipped : (k j : ℕ) (ys : List Row) → k ≤ j → has_key j (from_key k ys) ≡ has_key j ys
 key_skipped k j [] l = refl
 key_skipped k j (y ∷ ys) l = let i = key_skipped k j ys l in grind (arith, nat_tests)
 
-also_skipped : (k low : ℕ) (xs ys : List Row) → k ≤ low → Up low xs → also_in xs (skipped k ys) ≡ also_in xs ys
+also_skipped : (k low : ℕ) (xs ys : List Row) → k ≤ low → SortedFrom low xs → also_in xs (from_key k ys) ≡ also_in xs ys
 also_skipped k low [] ys l u = refl
 also_skipped k low (x ∷ xs) ys l u =
     rw (key_skipped k x.key ys (omega arith), also_skipped k (suc x.key) xs ys (omega arith) u.1) refl
 
-pub merged_also_in : (low high : ℕ) (xs ys : List Row) → Up low xs → Up high ys → merged xs ys ≡ also_in xs ys
+pub merged_also_in : (low high : ℕ) (xs ys : List Row) → SortedFrom low xs → SortedFrom high ys → intersection xs ys ≡ also_in xs ys
 merged_also_in low high [] ys u v = refl
 merged_also_in low high (x ∷ xs) ys u v =
     rw (
       first_skipped x.key high ys v,
-      merged_also_in (suc x.key) high xs (skipped x.key ys) u.1 (up_skipped x.key high ys v),
+      merged_also_in (suc x.key) high xs (from_key x.key ys) u.1 (up_skipped x.key high ys v),
       also_skipped x.key (suc x.key) xs ys (omega arith) u.1,
     ) refl

@@ -4,14 +4,14 @@ use Rattle.std.proofs.lemmas.Bool.Decides.{nat_tests}
 use Rattle.std.proofs.lemmas.Bool.{cases_Bool, ltb-true, ltb-false, eqb-true, eqb-false}
 use Rattle.rows.specs.declared.Row.{Row}
 use Rattle.rows.specs.declared.KeyRange.{KeyRange}
-use Rattle.rows.specs.Rows.{Up, Rising, has_key, smaller, put, put_all, without, in_range, rows_in, also_in}
+use Rattle.rows.specs.Rows.{SortedFrom, SortedByKey, has_key, smaller, put, put_all, without, in_range, rows_in, also_in}
 use Rattle.std.specs.List.{AllByRecursion}
 
-pub up_lower : (low high : ℕ) (rs : List Row) → low ≤ high → Up high rs → Up low rs
+pub up_lower : (low high : ℕ) (rs : List Row) → low ≤ high → SortedFrom high rs → SortedFrom low rs
 up_lower low high [] l u = tt
 up_lower low high (x ∷ xs) l u = (omega arith, u.1)
 
-pub smaller_none : (k low : ℕ) (rs : List Row) → k ≤ low → Up low rs → smaller k rs ≡ 0
+pub smaller_none : (k low : ℕ) (rs : List Row) → k ≤ low → SortedFrom low rs → smaller k rs ≡ 0
 smaller_none k low [] l u = refl
 smaller_none k low (x ∷ xs) l u = let i = smaller_none k (suc x.key) xs (omega arith) u.1 in grind (arith, nat_tests)
 
@@ -19,7 +19,7 @@ pub smaller_within : (k : ℕ) (rs : List Row) → smaller k rs ≤ length rs
 smaller_within k [] = omega arith
 smaller_within k (x ∷ xs) = let i = smaller_within k xs in grind (arith, nat_tests)
 
-pub key_none : (k low : ℕ) (rs : List Row) → k < low → Up low rs → has_key k rs ≡ false
+pub key_none : (k low : ℕ) (rs : List Row) → k < low → SortedFrom low rs → has_key k rs ≡ false
 key_none k low [] l u = refl
 key_none k low (x ∷ xs) l u = let i = key_none k (suc x.key) xs (omega arith) u.1 in grind (arith, nat_tests)
 
@@ -33,7 +33,7 @@ without_none k (x ∷ xs) h =
     ]
 
 -- rows that rise still rise
-pub up_put : (low : ℕ) (r : Row) (rs : List Row) → low ≤ r.key → Up low rs → Up low (put r rs)
+pub up_put : (low : ℕ) (r : Row) (rs : List Row) → low ≤ r.key → SortedFrom low rs → SortedFrom low (put r rs)
 up_put low r [] l u = (l, tt)
 up_put low r (x ∷ xs) l u =
     elim (cases_Bool (ltb x.key r.key)) [
@@ -45,7 +45,7 @@ up_put low r (x ∷ xs) l u =
           ])
     ]
 
-pub up_without : (low k : ℕ) (rs : List Row) → Up low rs → Up low (without k rs)
+pub up_without : (low k : ℕ) (rs : List Row) → SortedFrom low rs → SortedFrom low (without k rs)
 up_without low k [] u = tt
 up_without low k (x ∷ xs) u =
     elim (cases_Bool (eqb x.key k)) [
@@ -53,7 +53,7 @@ up_without low k (x ∷ xs) u =
       | inr e ↦ rw e (u.0, up_without (suc x.key) k xs u.1)
     ]
 
-pub up_rows_in : (low : ℕ) (range : KeyRange) (rs : List Row) → Up low rs → Up low (rows_in range rs)
+pub up_rows_in : (low : ℕ) (range : KeyRange) (rs : List Row) → SortedFrom low rs → SortedFrom low (rows_in range rs)
 up_rows_in low range [] u = tt
 up_rows_in low range (x ∷ xs) u =
     let i = up_rows_in (suc x.key) range xs u.1 in
@@ -62,7 +62,7 @@ up_rows_in low range (x ∷ xs) u =
       | inr e ↦ rw e (up_lower low _ (rows_in range xs) (omega arith) i)
     ]
 
-pub up_also_in : (low : ℕ) (rs ys : List Row) → Up low rs → Up low (also_in rs ys)
+pub up_also_in : (low : ℕ) (rs ys : List Row) → SortedFrom low rs → SortedFrom low (also_in rs ys)
 up_also_in low [] ys u = tt
 up_also_in low (x ∷ xs) ys u =
     let i = up_also_in (suc x.key) xs ys u.1 in
@@ -71,14 +71,14 @@ up_also_in low (x ∷ xs) ys u =
       | inr e ↦ rw e (up_lower low _ (also_in xs ys) (omega arith) i)
     ]
 
-pub rising_put_all : (ps rs : List Row) → Rising rs → Rising (put_all ps rs)
+pub rising_put_all : (ps rs : List Row) → SortedByKey rs → SortedByKey (put_all ps rs)
 rising_put_all [] rs u = u
 rising_put_all (p ∷ ps) rs u = rising_put_all ps (put p rs) (up_put 0 p rs (omega arith) u)
 
 -- how many rows there are
-pub length_put : (r : Row) (rs : List Row) → Rising rs → length (put r rs) ≡ cond (has_key r.key rs) (length rs) (suc (length rs))
+pub length_put : (r : Row) (rs : List Row) → SortedByKey rs → length (put r rs) ≡ cond (has_key r.key rs) (length rs) (suc (length rs))
 length_put r rs u = go 0 rs u where
-  go : (low : ℕ) (rs : List Row) → Up low rs → length (put r rs) ≡ cond (has_key r.key rs) (length rs) (suc (length rs))
+  go : (low : ℕ) (rs : List Row) → SortedFrom low rs → length (put r rs) ≡ cond (has_key r.key rs) (length rs) (suc (length rs))
   go low [] u = refl
   go low (x ∷ xs) u =
       let i = go (suc x.key) xs u.1 in

@@ -5,7 +5,7 @@ use Rattle.std.proofs.lemmas.Bool.{cases_Bool, lt-ltb, le-ltb, cases_lt}
 use Rattle.std.specs.List.{prefix_len}
 use Rattle.rows.specs.declared.Row.{Row}
 use Rattle.rows.specs.Halving.{flat, pair_row, rows_of}
-use Rattle.rows.specs.Numbers.{skipped, first_is, merged, stands_at, in_front}
+use Rattle.rows.specs.Numbers.{from_key, first_is, intersection, stands_at, in_front}
 use Rattle.rows.proofs.Memory.{rows_more, rows_none, take_written, drop_written}
 use Rattle.rows.proofs.Paired.{length_rows_of}
 
@@ -18,7 +18,7 @@ module _ (xs : List ℕ) (i key : ℕ) where
       ]
 
 -- the smaller keys in front are passed over
-pub skipped_pairs : (key : ℕ) (xs : List (List ℕ)) → map pair_row (drop (prefix_len (λ x. ltb (get_or x 0 0) key) xs) xs) ≡ skipped key (map pair_row xs)
+pub skipped_pairs : (key : ℕ) (xs : List (List ℕ)) → map pair_row (drop (prefix_len (λ x. ltb (get_or x 0 0) key) xs) xs) ≡ from_key key (map pair_row xs)
 skipped_pairs key [] = refl
 skipped_pairs key (x ∷ xs) =
     elim (cases_Bool (ltb (get_or x 0 0) key)) [
@@ -27,16 +27,16 @@ skipped_pairs key (x ∷ xs) =
     ]
 
 -- a pass comes to no more rows than it goes through
-pub length_merged : (xs ys : List Row) → length (merged xs ys) ≤ length xs
+pub length_merged : (xs ys : List Row) → length (intersection xs ys) ≤ length xs
 length_merged [] ys = omega arith
 length_merged (x ∷ xs) ys =
-    let i = length_merged xs (skipped x.key ys) in
-    elim (cases_Bool (first_is x.key (skipped x.key ys))) [
+    let i = length_merged xs (from_key x.key ys) in
+    elim (cases_Bool (first_is x.key (from_key x.key ys))) [
       | inl e ↦ rw e (omega arith)
       | inr e ↦ rw e (omega arith)
     ]
 
-pub length_shared : (xs ys : List ℕ) → length (merged (rows_of xs) (rows_of ys)) ≤ length xs / 2
+pub length_shared : (xs ys : List ℕ) → length (intersection (rows_of xs) (rows_of ys)) ≤ length xs / 2
 length_shared xs ys = omega (arith, length_merged (rows_of xs) (rows_of ys), length_rows_of xs)
 
 -- where a pass stands: w rows are written, and the others are still to come

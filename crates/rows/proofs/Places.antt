@@ -5,9 +5,9 @@ use Rattle.std.proofs.lemmas.Bool.Decides.{nat_tests}
 use Rattle.std.proofs.lemmas.List.{take_at, drop_at}
 use Rattle.std.proofs.lemmas.Bool.{cases_lt, lt-ltb, le-ltb, eq-eqb}
 use Rattle.rows.specs.declared.Row.{Row}
-use Rattle.rows.specs.Rows.{Up, Rising, has_key, smaller}
+use Rattle.rows.specs.Rows.{SortedFrom, SortedByKey, has_key, smaller}
 use Rattle.rows.specs.Halving.{flat, rows_of, bisect, position}
-use Rattle.rows.specs.Numbers.{found}
+use Rattle.rows.specs.Numbers.{search_finds}
 use Rattle.rows.proofs.Orders.{smaller_none, smaller_within}
 use Rattle.rows.proofs.Splits.{split}
 use Rattle.rows.proofs.Passes.{first_is_at}
@@ -53,7 +53,7 @@ probes_suffice (suc n) (suc m) low high rows key h g =
     ]
 
 -- the key at a place is smaller just where the place is among the first `smaller`
-key_at : (k low i : ℕ) (rs : List Row) → Up low rs → i < length rs → ltb (get_or (flat rs) (2 * i) 0) k ≡ ltb i (smaller k rs)
+key_at : (k low i : ℕ) (rs : List Row) → SortedFrom low rs → i < length rs → ltb (get_or (flat rs) (2 * i) 0) k ≡ ltb i (smaller k rs)
 key_at k low i [] u h = absurd (omega arith)
 key_at k low zero (x ∷ xs) u h = let n : k ≤ x.key → smaller k xs ≡ 0 = λ l. smaller_none k (suc x.key) xs (omega arith) u.1 in grind (arith, nat_tests)
 key_at k low (suc i) (x ∷ xs) u h =
@@ -62,7 +62,7 @@ key_at k low (suc i) (x ∷ xs) u h =
     let r = key_at k (suc x.key) i xs u.1 (omega arith) in
     rw e (grind (arith, nat_tests))
 
-module _ (k : ℕ) (rs : List Row) (u : Rising rs) where
+module _ (k : ℕ) (rs : List Row) (u : SortedByKey rs) where
   bisect_counts : (n low high : ℕ) → high - low ≤ n → low ≤ smaller k rs → smaller k rs ≤ high → high ≤ length rs → bisect n low high (flat rs) k ≡ smaller k rs
   unfolding bisect
   bisect_counts zero low high f l g h = omega arith
@@ -83,7 +83,7 @@ module _ (k : ℕ) (rs : List Row) (u : Rising rs) where
       let e : length (flat rs) / 2 ≡ length rs = omega (arith, length_flat rs) in
       rw e (bisect_counts (length rs) 0 (length rs) (omega arith) (omega arith) (smaller_within k rs) (omega arith))
 
-  pub found_has : found k (flat rs) ≡ has_key k rs
+  pub found_has : search_finds k (flat rs) ≡ has_key k rs
   found_has =
       rw (position_counts, ← first_is_at (flat rs) (smaller k rs) k)
       (elim (split k rs u) [

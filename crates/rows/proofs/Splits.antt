@@ -2,7 +2,7 @@
 use Rattle.std.proofs.Common.{◌≡◌, ℕ, suc, ◌<◌, true, false, ◌⊎◌, List, [], ◌∷◌, ◌++◌, length, refl, ap, inl, inr, arith}
 use Rattle.std.proofs.lemmas.Bool.{cases_order, lt-ltb, le-ltb, ne_eqb, eq-eqb}
 use Rattle.rows.specs.declared.Row.{Row}
-use Rattle.rows.specs.Rows.{Up, Rising, has_key, smaller, put, without}
+use Rattle.rows.specs.Rows.{SortedFrom, SortedByKey, has_key, smaller, put, without}
 use Rattle.rows.specs.Numbers.{first_is}
 use Rattle.rows.proofs.Orders.{smaller_none, key_none, without_none}
 
@@ -61,7 +61,7 @@ module _ (k : ℕ) where
         without_is = rw f (ap (λ r. x ∷ r) h.without_is);
       }
 
-  here_first : (x : Row) (xs : List Row) → x.key ≡ k → Up (suc x.key) xs → Here k (x ∷ xs)
+  here_first : (x : Row) (xs : List Row) → x.key ≡ k → SortedFrom (suc x.key) xs → Here k (x ∷ xs)
   here_first x xs e u =
       let t = le-ltb x.key k (omega arith) in
       let f = eq-eqb x.key k e in
@@ -77,7 +77,7 @@ module _ (k : ℕ) where
         without_is = rw f refl;
       }
 
-  away_first : (x : Row) (xs : List Row) → k < x.key → Up (suc x.key) xs → Away k (x ∷ xs)
+  away_first : (x : Row) (xs : List Row) → k < x.key → SortedFrom (suc x.key) xs → Away k (x ∷ xs)
   away_first x xs l u =
       let t = le-ltb x.key k (omega arith) in
       let f = ne_eqb x.key k (λ e. omega arith) in
@@ -93,7 +93,7 @@ module _ (k : ℕ) where
         without_is = rw f (ap (λ r. x ∷ r) (without_none k xs n));
       }
 
-  split_up : (low : ℕ) (rs : List Row) → Up low rs → Here k rs ⊎ Away k rs
+  split_up : (low : ℕ) (rs : List Row) → SortedFrom low rs → Here k rs ⊎ Away k rs
   split_up low [] u =
       inr (record {
         before = [];
@@ -112,5 +112,5 @@ module _ (k : ℕ) where
         | inr (inr l) ↦ inr (away_first x xs l u.1)
       ]
 
-pub split : (k : ℕ) (rs : List Row) → Rising rs → Here k rs ⊎ Away k rs
+pub split : (k : ℕ) (rs : List Row) → SortedByKey rs → Here k rs ⊎ Away k rs
 split k rs u = split_up k 0 rs u

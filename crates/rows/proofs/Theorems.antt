@@ -5,19 +5,19 @@ use Rattle.std.proofs.lemmas.Bool.Decides.{nat_tests}
 use Rattle.std.proofs.lemmas.List.{length-append, length-drop}
 use Rattle.std.proofs.lemmas.Bool.{cases_Bool, le-ltb}
 use Rattle.rows.specs.declared.Row.{Row}
-use Rattle.rows.specs.Rows.{Rising, has_key, smaller, put, without, sum, Small}
+use Rattle.rows.specs.Rows.{SortedByKey, has_key, smaller, put, without, sum, Small}
 use Rattle.rows.specs.Halving.{flat, bisect, position}
-use Rattle.rows.specs.Numbers.{opened, closed, in_front}
-use Rattle.rows.specs.Laws.{HalvingCounts, HalvingFinds, ProbesSuffice, fits, PutIsPut, PutRises, DeleteIsWithout, DeleteRises, RangeIsRowsIn, RangeRises, SharedIsAlsoIn, SharedRises, TotalIsSum, TotalIsExact}
+use Rattle.rows.specs.Numbers.{insert_row, remove_row, in_front}
+use Rattle.rows.specs.Laws.{SearchCounts, SearchFinds, ProbesSuffice, fits, PutIsPut, PutSorted, DeleteIsWithout, DeleteSorted, RangeIsRowsIn, RangeSorted, SharedIsAlsoIn, SharedSorted, TotalIsSum, TotalIsExact}
 use Rattle.rows.proofs.Orders.{up_put, up_without, up_rows_in, up_also_in, length_put, length_without}
 use Rattle.rows.proofs.Splits.{split, Here, Away}
 use Rattle.rows.proofs.Places.{length_flat, rows_of_flat, take_flat, drop_flat, position_counts, found_has, probes_suffice}
 use Rattle.rows.proofs.Images.{set_flat, opened_flat, closed_flat, flat_take, flat_drop, between_is_rows_in, merged_also_in}
 
-pub halving_counts : HalvingCounts
+pub halving_counts : SearchCounts
 halving_counts k rs rest u = rw (take_flat rs rest) (position_counts k rs u)
 
-pub halving_finds : HalvingFinds
+pub halving_finds : SearchFinds
 halving_finds k rs u = rw (found_has k rs u, position_counts k rs u) refl
 
 below_power : (n : ℕ) → n < 2 ^ n
@@ -36,7 +36,7 @@ pub length_in_front : (rs : List Row) (out : List ℕ) → 2 * length rs ≤ len
 length_in_front rs out h = simp (length-append, length-drop) (omega (arith, length_flat rs))
 
 -- the memory that a call is lent: rows that rise, and more behind them
-module _ (rs : List Row) (rest : List ℕ) (u : Rising rs) where
+module _ (rs : List Row) (rest : List ℕ) (u : SortedByKey rs) where
   lent_length : length (flat rs ++ rest) ≡ 2 * length rs + length rest
   lent_length = length-append (flat rs) rest ∙ ap (λ n. n + length rest) (length_flat rs)
 
@@ -62,13 +62,13 @@ module _ (rs : List Row) (rest : List ℕ) (u : Rising rs) where
         rw (n, drop_flat rs rest, h.smaller_is, h.put_is r refl)
         (ap (λ l. set (flat l ++ rest) (2 * length h.before + 1) r.amount) h.rows_are ∙ set_flat h.before h.behind h.row r rest h.key_is)
 
-    put_away : Away r.key rs → opened (smaller r.key rs) (length rs) r (flat rs ++ rest) ≡ in_front (put r rs) (flat rs ++ rest)
+    put_away : Away r.key rs → insert_row (smaller r.key rs) (length rs) r (flat rs ++ rest) ≡ in_front (put r rs) (flat rs ++ rest)
     put_away h =
         let m = rw h.has at (length_put r rs u) in
         let n : 2 * length (put r rs) ≡ 2 * length rs + 2 = omega arith in
         rw (n, h.smaller_is, h.put_is r refl, h.rows_are) (opened_flat h.before h.behind rest r)
 
-  delete_here : (k : ℕ) → Here k rs → closed (smaller k rs) (length rs) (flat rs ++ rest) ≡ in_front (without k rs) (flat rs ++ rest)
+  delete_here : (k : ℕ) → Here k rs → remove_row (smaller k rs) (length rs) (flat rs ++ rest) ≡ in_front (without k rs) (flat rs ++ rest)
   delete_here k h = rw (h.smaller_is, h.without_is, h.rows_are) (closed_flat h.before h.row h.behind rest)
 
 pub put_is_put : PutIsPut
@@ -102,7 +102,7 @@ put_is_put r rs rest u =
           ]
     ]
 
-pub put_rises : PutRises
+pub put_rises : PutSorted
 put_rises r rs u = up_put 0 r rs (omega arith) u
 
 pub delete_is_without : DeleteIsWithout
@@ -119,7 +119,7 @@ delete_is_without k rs rest u =
       )
     ]
 
-pub delete_rises : DeleteRises
+pub delete_rises : DeleteSorted
 delete_rises k rs u = up_without 0 k rs u
 
 pub range_is_rows_in : RangeIsRowsIn
@@ -135,7 +135,7 @@ range_is_rows_in range rs u =
       between_is_rows_in range 0 rs u,
     ) refl
 
-pub range_rises : RangeRises
+pub range_rises : RangeSorted
 range_rises range rs u = up_rows_in 0 range rs u
 
 pub shared_is_also_in : SharedIsAlsoIn
@@ -150,7 +150,7 @@ shared_is_also_in xs ys out u v =
       | inr e ↦ (rw (t, e) refl, rw (t, e) refl)
     ]
 
-pub shared_rises : SharedRises
+pub shared_rises : SharedSorted
 shared_rises xs ys u = up_also_in 0 xs ys u
 
 pub total_is_sum : TotalIsSum

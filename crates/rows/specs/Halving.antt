@@ -1,4 +1,4 @@
--- Rows in memory: two numbers a row, key and amount; and where a key stands among them, found by halving.
+-- Rows in memory: two numbers a row, key and amount; and where a binary search for a key ends.
 use Rattle.std.specs.Prelude.{ℕ, zero, suc, ◌+◌, ◌-◌, ◌*◌, ◌/◌, if◌then◌else◌, List, [], ◌∷◌, length, nat_lt, slice_index}
 use Rattle.rows.specs.declared.Row.{Row}
 
@@ -17,6 +17,7 @@ rows_of (k ∷ a ∷ xs) = record { key = k; amount = a } ∷ rows_of xs
 abbrev pub pair_row : List ℕ → Row
 pair_row pair = record { key = slice_index pair 0; amount = slice_index pair 1 }
 
+-- a binary search between two places, in at most so many steps
 unfoldable pub bisect : ℕ → ℕ → ℕ → List ℕ → ℕ → ℕ
 bisect zero low high rows key = low
 bisect (suc fuel) low high rows key =
@@ -26,5 +27,6 @@ bisect (suc fuel) low high rows key =
     else bisect fuel low (low + (high - low) / 2) rows key)
     else low
 
+-- and among all rows
 unfoldable pub position : ℕ → List ℕ → ℕ
 position key rows = bisect (length rows / 2) 0 (length rows / 2) rows key

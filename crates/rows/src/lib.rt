@@ -1,4 +1,5 @@
-// Rows in lent memory, by rising key: found by halving, put, deleted, cut to a key range, added up, compared with others.
+//! Rows in lent memory, sorted by key: found by binary search, put, deleted, restricted to a key range, added up,
+//! compared with others.
 #![tactic(auto)]
 
 ghost use Rattle.std.specs.Prelude.{◌≡◌, ◌+◌, ◌*◌, ◌/◌, ◌%◌, ◌^◌, ◌≤◌, length, map, IfSome, MatchResult, slice_set};
@@ -6,32 +7,32 @@ ghost use Rattle.std.specs.Iterator.{YieldsFirstBy, item_count};
 ghost use Rattle.rows.specs.Rows.{sum};
 ghost use Rattle.rows.specs.Halving.{pair_row, position, rows_of};
 ghost use Rattle.rows.specs.Passes.{shared_rows};
-ghost use Rattle.rows.specs.Numbers.{sought, place, opened, put_count, put_into, delete_count, delete_from, range_part, totals_of, skipped, first_is, merged, in_front, shared_count, shared_into};
+ghost use Rattle.rows.specs.Numbers.{search_result, place, insert_row, put_count, put_into, delete_count, delete_from, range_part, totals_of, from_key, first_is, intersection, in_front, shared_count, shared_into};
 
 pub mod laws;
 
-// One row of a compartment.
+/// One row of a compartment.
 #[derive(Clone, Copy, PartialEq, Eq, Debug)]
 pub struct Row {
     pub key: u32,
     pub amount: u32,
 }
 
-// All keys from one to another, both counted in.
+/// All keys from one to another, both included.
 #[derive(Clone, Copy, PartialEq, Eq, Debug)]
 pub struct KeyRange {
     pub from: u32,
     pub to: u32,
 }
 
-// How many rows there are, and the sum of their amounts.
+/// How many rows there are, and the sum of their amounts.
 #[derive(Clone, Copy, PartialEq, Eq, Debug)]
 pub struct Totals {
     pub rows: usize,
     pub amount: u64,
 }
 
-// The rows, each as its key and its amount; an odd number at the end belongs to none.
+/// The rows, each as its key and its amount; an odd number at the end belongs to none.
 #[tactic(auto, using(crate::proofs::Paired::pairs_rows))]
 pub fn pairs(rows: &[u64]) -> &[[u64; 2]]
     ensures { map pair_row result.now ≡ rows_of rows.now }
@@ -39,7 +40,8 @@ pub fn pairs(rows: &[u64]) -> &[[u64; 2]]
     rows.as_chunks().0
 }
 
-// Where the halving for `key` comes out, for every content; where rows rise, how many keys are smaller.
+/// Where a binary search for `key` ends, whatever memory holds; where rows are sorted by key, how many keys are
+/// smaller.
 pub fn position(rows: &[u64], key: u64) -> usize
     ensures value { result ≡ position key rows.now }
     ensures within { 2 * result ≤ length rows.now }
@@ -47,7 +49,7 @@ pub fn position(rows: &[u64], key: u64) -> usize
     halve(rows, key)
 }
 
-// The halving itself, apart, so that `position` stands on a contract and on no proof of a loop; by hand: `partition_point` says where it comes out for rows that rise only.
+// The search itself. By hand: `partition_point` says where it ends only for rows that are sorted.
 fn halve(rows: &[u64], key: u64) -> usize
     ensures value { result ≡ position key rows.now }
     ensures within { 2 * result ≤ length rows.now }
@@ -65,9 +67,9 @@ fn halve(rows: &[u64], key: u64) -> usize
     low
 }
 
-// Where the row with this key stands, or where it would come in.
+// The place of the row with this key, or where it would be inserted.
 fn search(rows: &[u64], key: u64) -> Result<usize, usize>
-    ensures value { result ≡ sought key rows.now }
+    ensures value { result ≡ search_result key rows.now }
     ensures within { MatchResult result (λ at. 2 * at + 2 ≤ length rows.now) (λ at. 2 * at ≤ length rows.now) }
 {
     let at = position(rows, key);
@@ -78,7 +80,7 @@ fn search(rows: &[u64], key: u64) -> Result<usize, usize>
     }
 }
 
-// Where the row with this key stands.
+/// The place of the row with this key.
 pub fn find(rows: &[u64], key: u64) -> Option<usize>
     ensures value { result ≡ place key rows.now }
     ensures within { IfSome result (λ at. 2 * at + 2 ≤ length rows.now) }
@@ -86,9 +88,10 @@ pub fn find(rows: &[u64], key: u64) -> Option<usize>
     search(rows, key).ok()
 }
 
-// Puts a row among the first `count` of `part`, in place of the one with its key, and says how many there are then;
-// where one more has no place, or `count` is more than the part holds, nothing changes.
-// The count is passed and handed back, not kept in a struct: it lies in lent memory, in front of the rows.
+/// Puts a row among the first `count` of `part`, in place of the one with its key, and returns how many there are then;
+/// where there is no room for one more, or `count` is more than the part holds, nothing changes.
+///
+/// The count is passed and returned, not kept in a struct: it lies in lent memory, before the rows.
 pub fn put(part: &mut [u64], count: usize, row: Row) -> Option<usize>
     ensures told { result ≡ put_count count row part.old }
     ensures after { part.new ≡ put_into count row part.old }
@@ -111,11 +114,11 @@ pub fn put(part: &mut [u64], count: usize, row: Row) -> Option<usize>
     }
 }
 
-// Moves the rows from `at` on by one, and writes the row where they were.
+// Moves the rows from `at` on by one place, and writes the row where they were.
 fn insert(part: &mut [u64], at: usize, count: usize, row: Row)
     requires before { at ≤ count }
     requires room { 2 * count + 2 ≤ length part.old }
-    ensures { part.new ≡ opened at count row part.old }
+    ensures { part.new ≡ insert_row at count row part.old }
 {
     part.copy_within(2 * at..2 * count, 2 * at + 2);
     set_row(part, at, [u64::from(row.key), u64::from(row.amount)]);
@@ -131,8 +134,8 @@ fn set_row(rows: &mut [u64], at: usize, row: [u64; 2])
     rows[2 * at + 1] = amount;
 }
 
-// Deletes the row with this key from the first `count` of `part`, and says how many are left;
-// where there is none, or `count` is more than the part holds, nothing changes.
+/// Deletes the row with this key from the first `count` of `part`, and returns how many are left;
+/// where there is none, or `count` is more than the part holds, nothing changes.
 pub fn delete(part: &mut [u64], count: usize, key: u32) -> Option<usize>
     ensures told { result ≡ delete_count count key part.old }
     ensures after { part.new ≡ delete_from count key part.old }
@@ -146,7 +149,7 @@ pub fn delete(part: &mut [u64], count: usize, key: u32) -> Option<usize>
     Some(count - 1)
 }
 
-// The part of the rows whose keys lie in a range: none where it runs backward.
+/// The part of the rows whose keys lie in a range: none where it runs backward.
 pub fn range(rows: &[u64], range: KeyRange) -> &[u64]
     ensures value { result.now ≡ range_part range rows.now }
     ensures within { length result.now ≤ length rows.now }
@@ -157,7 +160,7 @@ pub fn range(rows: &[u64], range: KeyRange) -> &[u64]
     &rows[2 * start..2 * end]
 }
 
-// How many rows there are, and the sum of their amounts, modulo 2^64.
+/// How many rows there are, and the sum of their amounts, modulo 2^64.
 pub fn total(rows: &[u64]) -> Totals
     ensures { result ≡ totals_of rows.now }
 {
@@ -177,8 +180,8 @@ fn add_up(rows: &[u64]) -> u64
     sum
 }
 
-// Writes the rows of `a` whose keys are in `b` to the front of `out`, in one pass over both, and says how many they are;
-// where `out` has less room than `a`, nothing changes.
+/// Writes the rows of `a` whose keys are in `b` to the front of `out`, in one pass over both, and returns how many
+/// they are; where `out` has less room than `a`, nothing changes.
 pub fn shared(a: &[u64], b: &[u64], out: &mut [u64]) -> Option<usize>
     ensures told { result ≡ shared_count a.now b.now out.old }
     ensures after { out.new ≡ shared_into a.now b.now out.old }
@@ -190,11 +193,11 @@ pub fn shared(a: &[u64], b: &[u64], out: &mut [u64]) -> Option<usize>
     Some(merge(a, b, out))
 }
 
-// Writes the rows that both share to the front of `out`, and says how many they are.
+// Writes the rows that both share to the front of `out`, and returns how many they are.
 fn merge(a: &[u64], b: &[u64], out: &mut [u64]) -> usize
     requires { length a.now / 2 ≤ length out.old / 2 }
-    ensures told { result ≡ length (merged (rows_of a.now) (rows_of b.now)) }
-    ensures after { out.new ≡ in_front (merged (rows_of a.now) (rows_of b.now)) out.old }
+    ensures told { result ≡ length (intersection (rows_of a.now) (rows_of b.now)) }
+    ensures after { out.new ≡ in_front (intersection (rows_of a.now) (rows_of b.now)) out.old }
     ensures within { result ≤ length a.now / 2 }
 {
     // Counted by hand, since the number is what is returned.
@@ -206,16 +209,17 @@ fn merge(a: &[u64], b: &[u64], out: &mut [u64]) -> usize
     written
 }
 
-// How many rows of `a` have keys that are in `b`, in one pass over both.
+/// How many rows of `a` have keys that are in `b`, in one pass over both.
 #[tactic(auto, using(crate::proofs::Passes::length_shared))]
 pub fn shared_keys(a: &[u64], b: &[u64]) -> usize
-    ensures value { result ≡ length (merged (rows_of a.now) (rows_of b.now)) }
+    ensures value { result ≡ length (intersection (rows_of a.now) (rows_of b.now)) }
     ensures within { result ≤ length a.now / 2 }
 {
     SharedRows::new(a, b).count()
 }
 
-// The rows whose keys are among those of others, in one pass over both: what is passed on either side is not seen again.
+// The rows whose keys are among those of others, in one pass over both: what is passed on either side is not seen
+// again.
 #[derive(Drop)]
 struct SharedRows<'a> {
     rows: &'a [[u64; 2]],
@@ -224,7 +228,7 @@ struct SharedRows<'a> {
 
 impl<'a> SharedRows<'a> {
     fn new(a: &'a [u64], b: &'a [u64]) -> SharedRows<'a>
-        ensures { shared_rows result ≡ merged (rows_of a.now) (rows_of b.now) }
+        ensures { shared_rows result ≡ intersection (rows_of a.now) (rows_of b.now) }
     {
         SharedRows {
             rows: pairs(a),
@@ -255,7 +259,7 @@ impl<'a> Iterator for SharedRows<'a> {
 
 // The rows from the first one on whose key is not smaller.
 fn skip(rows: &[[u64; 2]], key: u64) -> &[[u64; 2]]
-    ensures { map pair_row result.now ≡ skipped key (map pair_row rows.now) }
+    ensures { map pair_row result.now ≡ from_key key (map pair_row rows.now) }
 {
     let smaller = rows.iter().take_while(|[first, _]| *first < key).count();
     &rows[smaller..]

@@ -1,51 +1,48 @@
-// Shows the policy of a trace from standard input: as a table, or with the argument `dot` as a graph for Graphviz.
+//! Shows the policy of a trace: as a table, or with the word `dot` as a graph for Graphviz.
 #![tactic(auto)]
 
+use command_line::{Program, Stop};
+use output::Output;
 use policy::Policy;
-use std::alloc::{AllocError, Global};
-use std::env;
-use std::io::{self, Read};
+use std::io::{self, LineWriter};
 use std::process::ExitCode;
 
-fn main(rt: HostRuntime) -> io::Result<ExitCode> {
-    let Ok(arguments) = env::args(&rt) else {
-        return usage(&rt);
-    };
-    // The first is the program's name.
-    let mut words = arguments.skip(1);
-    let Some(word) = words.next() else {
-        return show(&rt, policy_text::table);
-    };
-    if word.as_str() == "dot" && words.next().is_none() {
-        show(&rt, policy_text::graph)
-    } else {
-        usage(&rt)
+const SHOW_POLICY: Program = Program {
+    name: "show_policy",
+    words: "[dot] [FILE]",
+    about: "Shows the policy of the trace in FILE, or on standard input; with dot as a graph for Graphviz.",
+};
+
+fn main(rt: HostRuntime) -> ExitCode {
+    let done = show_policy(&rt);
+    // Where standard error cannot be written, the status alone tells.
+    let _ = SHOW_POLICY.tell(&mut rt.stderr(), &done);
+    command_line::status(&done)
+}
+
+fn show_policy(rt: &HostRuntime) -> Result<(), Stop> {
+    let words = SHOW_POLICY.words(rt, &mut rt.stdout())?;
+    let (is_graph, words) = form(words.as_slice());
+    let bytes = command_line::read(rt, command_line::file_of(words)?)?;
+    match trace_bytes::open(bytes.as_slice(), trace_bytes::CAPACITY) {
+        Ok(opening) => Ok(show(rt, &opening.policy, is_graph)?),
+        Err(refusal) => Err(Stop::at(refusal, bytes.as_slice())),
     }
 }
 
-fn usage(rt: &HostRuntime) -> io::Result<ExitCode> {
-    eprintln!(rt; "usage: show_policy [dot] < TRACE")?;
-    Ok(ExitCode::FAILURE)
+// Whether a graph is asked for, and the words after that.
+fn form(words: &[String]) -> (bool, &[String]) {
+    match words {
+        [word, rest @ ..] if word.as_str() == "dot" => (true, rest),
+        _ => (false, words),
+    }
 }
 
-// Prints the overview of the policy, or why it is refused.
-fn show<F>(rt: &HostRuntime, overview: F) -> io::Result<ExitCode>
-where
-    F: FnOnce(Global, &Policy) -> Result<String, AllocError>,
-    requires { F.IsAlwaysCallable overview }
-{
-    // The two lines that read stand in four programs, for the reason that stands in `play`.
-    let mut bytes = Vec::new(rt.alloc());
-    rt.stdin().read_to_end(&mut bytes)?;
-    match trace_bytes::read_policy(bytes.as_slice(), trace_bytes::CAPACITY) {
-        Ok(policy) => {
-            let text = overview(rt.alloc(), &policy)?;
-            rt.print(text.as_str())?;
-            Ok(ExitCode::SUCCESS)
-        }
-        Err(refusal) => {
-            eprintln!(rt; "{refusal}")?;
-            Ok(ExitCode::FAILURE)
-        }
+fn show(rt: &HostRuntime, policy: &Policy, is_graph: bool) -> io::Result<()> {
+    let mut out = Output::new(LineWriter::new(rt.alloc(), rt.stdout())?);
+    if is_graph {
+        policy_text::write_graph(&mut out, policy)
+    } else {
+        policy_text::write_table(&mut out, policy)
     }
 }

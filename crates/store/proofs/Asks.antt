@@ -1,15 +1,15 @@
 -- A query follows the model.
 use Rattle.std.proofs.Common.{◌≡◌, ℕ, zero, suc, ◌+◌, ◌-◌, ◌<◌, ◌≤◌, min, true, false, ltb, ◌⊎◌, List, [], ◌∷◌, length, take, Some, None, Option, sym, refl, ◌∙◌, inl, inr, arith}
-use Rattle.memory_query.specs.Asked.{with_cache}
-use Rattle.memory_query.specs.Places.{part_at, version_at, fault_at}
+use Rattle.memory_query.specs.AskResult.{ask_result}
+use Rattle.memory_query.specs.MemoryParts.{part_at, version_at, fault_at, with_cache}
 use Rattle.memory_query.specs.Tie as tie
-use Rattle.memory_query.proofs.Tied.{queries_with_row}
-use Rattle.cache.specs.Entries.{Entry, held, OfView}
-use Rattle.cache.specs.declared.Kept.{Kept}
+use Rattle.memory_query.proofs.Tied.{queries_as_model}
+use Rattle.cache.specs.Entries.{Entry, padded_entries, OfView}
+use Rattle.cache.specs.declared.CachedAnswer.{CachedAnswer}
 use Rattle.cache.proofs.Stored.{length_held}
 use Rattle.compartment.specs.Holding as compartment
 use Rattle.compartment.specs.Parts.{limit}
-use Rattle.model.specs.Model.{State, lend, accepted, response, step, remembered, entry, look_up}
+use Rattle.model.specs.Model.{State, lend, is_accepted, response, step, remember, entry, look_up}
 use Rattle.model.proofs.Changes.{only_writers}
 use Rattle.policy.specs.Access.{rules_of, place_in, cache_at}
 use Rattle.policy.specs.Rules.{sees}
@@ -24,7 +24,7 @@ use Rattle.std.proofs.lemmas.List.{get_or_past, length-take, length-take-le, len
 use Rattle.std.proofs.lemmas.Bool.{cases_Bool, cases_eq, cases_lt, lt-ltb, le-ltb, lt-leb, ltb-true, eq-eqb, cond-true, cond-false, both_ways}
 use Rattle.std.specs.List.{AllByRecursion}
 use Rattle.store.specs.Memory.{end, part}
-use Rattle.store.specs.Simulation.{Holds, AskFollows, AskFollowsWithRow, cache_start}
+use Rattle.store.specs.Simulation.{Holds, cache_start}
 use Rattle.store.proofs.Parts.{kept_length, part_here, part_apart}
 use Rattle.store.proofs.Standing.{stands_in, count_in, version_in}
 
@@ -38,7 +38,7 @@ seer_there p user c e =
           absurd (both_ways false refl (rw none at e))
     ]
 
-small : (rs : List Row) → AllByRecursion compartment.Brought rs → AllByRecursion (λ x. x.amount < 4294967296) rs
+small : (rs : List Row) → AllByRecursion compartment.FitsU32s rs → AllByRecursion (λ x. x.amount < 4294967296) rs
 small [] a = tt
 small (x ∷ xs) a = (a.0.1, small xs a.1)
 
@@ -47,7 +47,7 @@ module _ (p : Policy) (s : State) (memory : List ℕ) (h : Holds p s memory) (us
     there : c < p.compartments
     there = seen_there p user c (seer_there p user c e) e
 
-    held_c : compartment.Holds ((rules_of p).capacity c) (s.version c) (s.rows c) (part (place_in p c) memory)
+    held_c : compartment.PartHolds ((rules_of p).capacity c) (s.version c) (s.rows c) (part (place_in p c) memory)
     held_c = h.compartments c there
 
     rows_c : part_at p memory c ≡ flat (s.rows c)
@@ -75,15 +75,15 @@ module _ (p : Policy) (s : State) (memory : List ℕ) (h : Holds p s memory) (us
         | inr t ↦ let f = rw t at e in absurd cc
       ]
 
-  pub seen : tie.Holds p s user memory
+  pub seen : tie.HoldsView p s user memory
   seen = record {
     long = h.long;
     rows = rows_c;
     version = version_c;
     bounds = bounds_c;
     orderly = λ c e. record {
-      rises = (held_c c e).rises;
-      small = small (s.rows c) (held_c c e).brought;
+      rises = (held_c c e).sorted;
+      small = small (s.rows c) (held_c c e).small;
       within = (held_c c e).fits;
       few = (policies_valid p).bounded c (there c e);
     };
@@ -95,13 +95,13 @@ module _ (p : Policy) (s : State) (memory : List ℕ) (h : Holds p s memory) (us
 -- a cache after a query: as it was, or with one entry in front and the newest eight left
 module _ (p : Policy) (s : State) (user lent : ℕ) (query : Query) (P : List Entry → Type 0)
     (old : P (s.cache user)) (new : P (take 8 (entry (rules_of p) s user query ∷ s.cache user))) where
-  by_find : (o : Option Kept) → P ((remembered (rules_of p) s user query o).cache user)
+  by_find : (o : Option CachedAnswer) → P ((remember (rules_of p) s user query o).cache user)
   by_find (Some kept) = old
   by_find None = rw (eq-eqb user user refl) new
 
   pub next_cache : P ((step (rules_of p) limit s (lend (Ask user query) lent)).cache user)
   next_cache =
-      elim (cases_Bool (accepted (response (rules_of p) limit s (lend (Ask user query) lent)))) [
+      elim (cases_Bool (is_accepted (response (rules_of p) limit s (lend (Ask user query) lent)))) [
         | inl e ↦ rw e (by_find (look_up (rules_of p) s user query))
         | inr e ↦ rw e old
       ]
@@ -139,12 +139,12 @@ module _ (p : Policy) (s : State) (memory : List ℕ) (h : Holds p s memory) (us
   -- memory with the user's cache replaced
   pub asked_holds : user < p.users →
       Holds p (step (rules_of p) limit s (lend (Ask user query) lent))
-      (with_cache (cache_start p user) (held 8 ((step (rules_of p) limit s (lend (Ask user query) lent)).cache user)) memory)
+      (with_cache (cache_start p user) (padded_entries 8 ((step (rules_of p) limit s (lend (Ask user query) lent)).cache user)) memory)
   asked_holds there =
       let t = step (rules_of p) limit s (lend (Ask user query) lent) in
       let own = only_writers (rules_of p) limit s (lend (Ask user query) lent) in
       let at = cache_start p user in
-      let new = held 8 (t.cache user) in
+      let new = padded_entries 8 (t.cache user) in
       let wide : length new ≡ 192 = length_held 8 (t.cache user) (few_then user) in
       let inside : at + 192 ≤ length memory = omega (arith, h.long) in
       record {
@@ -164,21 +164,16 @@ module _ (p : Policy) (s : State) (memory : List ℕ) (h : Holds p s memory) (us
         of_view = of_view_then;
       }
 
-pub ask_with_row : AskFollowsWithRow
-ask_with_row p s memory row user query h =
-    let w = queries_with_row p limit s user query memory row (seen p s memory h user) in
-    let q = w.model in
+-- a query does as the model, and leaves memory that holds the model's next state
+pub ask_holds : (p : Policy) (s : State) (memory lent : List ℕ) (user : ℕ) (query : Query) → Holds p s memory →
+    Holds p (step (rules_of p) limit s (lend (Ask user query) (length lent))) (ask_result p memory lent user query).memory
+ask_holds p s memory lent user query h =
+    let q = queries_as_model p limit s user query memory lent (seen p s memory h user) in
     elim (cases_Bool (ltb user p.users)) [
       | inl e ↦
           let at : cache_at p user ≡ Some (cache_start p user) = cond-true (ltb user p.users) _ _ e in
-          record {
-            follows = record { tells = q.told; holds = rw (q.kept (cache_start p user) at) (asked_holds p s memory h user (length row) query (ltb-true user p.users e)) };
-            left = w.left;
-          }
+          rw (q.kept (cache_start p user) at) (asked_holds p s memory h user (length lent) query (ltb-true user p.users e))
       | inr e ↦
           let none : cache_at p user ≡ None = cond-false (ltb user p.users) _ _ e in
-          record { follows = record { tells = q.told; holds = rw (q.absent none, e) h }; left = w.left }
+          rw (q.absent none, e) h
     ]
-
-pub ask_follows : AskFollows
-ask_follows p s memory row user query h = (ask_with_row p s memory row user query h).follows

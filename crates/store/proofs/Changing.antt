@@ -1,7 +1,9 @@
 -- A changed part that holds other rows gives a changed memory that holds the state with these rows.
-use Rattle.std.proofs.Common.{◌≡◌, ℕ, suc, ◌+◌, ◌-◌, ◌<◌, ◌≤◌, true, false, cond, ◌⊎◌, List, length, drop, is_ok, Ok, Err, Result, sym, refl, ap, ◌∙◌, inl, inr, arith}
+use Rattle.std.proofs.Common.{◌≡◌, ℕ, suc, ◌+◌, ◌-◌, ◌<◌, ◌≤◌, Bool, true, false, cond, ◌⊎◌, List, length, drop, is_ok, Ok, Err, Result, sym, refl, ap, ◌∙◌, inl, inr, arith}
+use Rattle.compartment.specs.ChangeResult.{ChangeResult}
 use Rattle.compartment.specs.Holding as compartment
-use Rattle.model.specs.Model.{State, Response, done, refused, answered, accepted, changed}
+use Rattle.compartment.specs.Parts.{limit}
+use Rattle.model.specs.Model.{State, Call, Response, done, refused, answered, is_accepted, set_rows, response, step}
 use Rattle.policy.specs.Access.{rules_of, place_in}
 use Rattle.policy.specs.declared.Policy.{Policy}
 use Rattle.policy.specs.declared.place.Place.{Place}
@@ -10,11 +12,29 @@ use Rattle.policy.proofs.Proved.{compartments_apart}
 use Rattle.rows.specs.declared.Row.{Row}
 use Rattle.std.proofs.lemmas.List.{take-append-drop}
 use Rattle.std.proofs.lemmas.Bool.{cases_Bool, cases_eq, cases_lt, eq-eqb, ne_eqb}
-use Rattle.store.specs.Memory.{end, part, with_part}
-use Rattle.store.specs.Simulation.{Holds, as_result, cache_start}
+use Rattle.store.specs.Memory.{end, part, with_part, change_at}
+use Rattle.store.specs.Simulation.{Holds, cache_start}
 use Rattle.store.proofs.Parts.{kept_length, part_here, part_apart}
 
-pub accepted_is : (r : Response) → accepted r ≡ is_ok (as_result r)
+-- a response to a change, as the calls return it
+abbrev pub as_result : Response → Result (Unit {0}) Refusal
+as_result done = Ok tt
+as_result (refused e) = Err e
+as_result (answered a n) = Ok tt
+
+-- a change that may be refused in two ways, as the calls return it
+pub as_change : (fits lasts : Bool) (why last : Refusal) →
+    as_result (cond fits (cond lasts done (refused last)) (refused why)) ≡ cond fits (cond lasts (Ok tt) (Err last)) (Err why)
+as_change true true why last = refl
+as_change true false why last = refl
+as_change false lasts why last = refl
+
+-- a change tells what the model tells, and leaves memory that holds the model's next state
+pub record Follows (p : Policy) (s : State) (call : Call) (change : ChangeResult) : Type 0 where
+  pub tells : change.told ≡ as_result (response (rules_of p) limit s call)
+  pub holds : Holds p (step (rules_of p) limit s call) change.memory
+
+accepted_is : (r : Response) → is_accepted r ≡ is_ok (as_result r)
 accepted_is done = refl
 accepted_is (refused e) = refl
 accepted_is (answered a n) = refl
@@ -39,11 +59,11 @@ module _ (p : Policy) (s : State) (memory : List ℕ) (h : Holds p s memory) (c 
   pub fits : (place_in p c).start + (end (place_in p c) - (place_in p c).start) ≤ length memory
   fits = omega (arith, (compartments_apart p c there).0, h.long)
 
-  module _ (new : List Row) (after : List ℕ) (holds : compartment.Holds ((rules_of p).capacity c) (suc (s.version c)) new after) where
+  module _ (new : List Row) (after : List ℕ) (holds : compartment.PartHolds ((rules_of p).capacity c) (suc (s.version c)) new after) where
     long : length after ≡ end (place_in p c) - (place_in p c).start
     long = omega (arith, holds.long)
 
-    changed_holds : Holds p (changed s c new) (with_part (place_in p c) after memory)
+    changed_holds : Holds p (set_rows s c new) (with_part (place_in p c) after memory)
     changed_holds = record {
       long = rw (kept_length memory after (place_in p c).start (end (place_in p c) - (place_in p c).start) fits long) h.long;
       compartments = λ d l. elim (cases_eq d c) [
@@ -56,14 +76,15 @@ module _ (p : Policy) (s : State) (memory : List ℕ) (h : Holds p s memory) (c 
       of_view = h.of_view;
     }
 
-  pub change_holds : (told : Result (Unit {0}) Refusal) (after : List ℕ) (r : Response) (new : List Row) → told ≡ as_result r
-      → (told ≡ Ok tt → compartment.Holds ((rules_of p).capacity c) (suc (s.version c)) new after)
-      → (is_ok told ≡ false → after ≡ part (place_in p c) memory)
-      → Holds p (cond (accepted r) (changed s c new) s) (with_part (place_in p c) after memory)
-  change_holds told after r new tells makes keeps =
-      elim (cases_Bool (is_ok told)) [
+  pub change_holds : (change : ChangeResult) (r : Response) (new : List Row) → change.told ≡ as_result r
+      → (change.told ≡ Ok tt → compartment.PartHolds ((rules_of p).capacity c) (suc (s.version c)) new change.memory)
+      → (is_ok change.told ≡ false → change.memory ≡ part (place_in p c) memory)
+      → Holds p (cond (is_accepted r) (set_rows s c new) s) (change_at (place_in p c) memory change).memory
+  change_holds change r new tells makes keeps =
+      elim (cases_Bool (is_ok change.told)) [
         | inl e ↦
-            let yes : accepted r ≡ true = accepted_is r ∙ (ap is_ok (sym tells) ∙ e) in rw yes (changed_holds new after (makes (ok_is told e)))
+            let yes : is_accepted r ≡ true = accepted_is r ∙ (ap is_ok (sym tells) ∙ e) in
+            rw yes (changed_holds new change.memory (makes (ok_is change.told e)))
         | inr e ↦
-            let no : accepted r ≡ false = accepted_is r ∙ (ap is_ok (sym tells) ∙ e) in rw (no, keeps e, with_same (place_in p c) memory) h
+            let no : is_accepted r ≡ false = accepted_is r ∙ (ap is_ok (sym tells) ∙ e) in rw (no, keeps e, with_same (place_in p c) memory) h
       ]

@@ -1,11 +1,8 @@
-// The store: requests on lent memory, as a policy allows them.
+//! The store: requests on lent memory, as a policy allows them.
 #![tactic(auto)]
 
-ghost use Rattle.std.specs.Prelude.{◌≡◌, ◌≤◌, length, IfOk};
-ghost use Rattle.std.specs.Option.{ok_or};
-ghost use Rattle.policy.specs.Access.{written_at};
-ghost use Rattle.base.specs.declared.refusal.Refusal.TheVariants.{NoUser};
-ghost use Rattle.store.specs.Calls.{both, opened_told, opened, wrote_told, wrote, deleted_told, deleted, copied_told, copied};
+ghost use Rattle.std.specs.Prelude.{◌≡◌, ◌≢◌, ◌≤◌, length, IfOk};
+ghost use Rattle.store.specs.Calls.{Apart, open_result, writer_told, write_result, delete_result, copying_told, copy_result};
 ghost use Rattle.store.specs.Memory.{end};
 ghost use Rattle.store.specs.Served.{serve_result};
 
@@ -14,56 +11,48 @@ pub mod laws;
 mod part;
 mod reply;
 
-use base::Refusal;
-use copying::Between;
+pub use base::Refusal;
+use compartment::Copying;
 pub use memory_query::ask;
 use part::part_of;
-use policy::{Policy, Written};
+use policy::Written;
+pub use policy::{Contract, Policy, View};
+pub use query::{AnswerSummary, Outcome, Query};
 pub use reply::Reply;
-use request::Request;
-use rows::{KeyRange, Row};
+pub use request::Request;
+pub use rows::{KeyRange, Row};
 
-// Policy and memory come apart: each call itself refuses memory that is too short, so no struct with a ghost field stands for both.
+// Each call is passed policy and memory, and itself refuses memory that is too short.
 
-// Memory of the length that the policy asks for becomes empty; what lies behind is not touched.
+/// Memory of the length that the policy asks for becomes empty; what lies behind is not touched.
 pub fn open(policy: &Policy, memory: &mut [u64]) -> Result<(), Refusal>
-    ensures told { result ≡ opened_told policy.now memory.old }
-    ensures after { memory.new ≡ opened policy.now memory.old }
+    ensures told { result ≡ (open_result policy.now memory.old).told }
+    ensures after { memory.new ≡ (open_result policy.now memory.old).memory }
 {
     policy.check_length(memory)?;
     memory[0..policy.memory_length()].fill(0);
     Ok(())
 }
 
-// The row comes into the compartment in which the user writes.
-// This and `delete` differ in the call that they end in: one function that took it as a closure would say no more.
+/// The row comes into the compartment in which the user writes, in place of the one with its key.
 pub fn write(policy: &Policy, memory: &mut [u64], user: usize, row: Row) -> Result<(), Refusal>
-    ensures told { result ≡ wrote_told policy.now user row memory.old }
-    ensures after { memory.new ≡ wrote policy.now user row memory.old }
+    ensures told { result ≡ (write_result policy.now memory.old user row).told }
+    ensures after { memory.new ≡ (write_result policy.now memory.old user row).memory }
 {
     let written = written_in(policy, memory, user)?;
     compartment::write(&mut memory[part_of(written.place)], written, row)
 }
 
-// The row with the key goes from there.
+/// The row with the key goes from there.
 pub fn delete(policy: &Policy, memory: &mut [u64], user: usize, key: u32) -> Result<(), Refusal>
-    ensures told { result ≡ deleted_told policy.now user key memory.old }
-    ensures after { memory.new ≡ deleted policy.now user key memory.old }
+    ensures told { result ≡ (delete_result policy.now memory.old user key).told }
+    ensures after { memory.new ≡ (delete_result policy.now memory.old user key).memory }
 {
     let written = written_in(policy, memory, user)?;
     compartment::delete(&mut memory[part_of(written.place)], written, key)
 }
 
-// The compartment in which the user writes, within memory.
-fn written_in(policy: &Policy, memory: &[u64], user: usize) -> Result<Written, Refusal>
-    ensures told { result ≡ both (opened_told policy.now memory.now) (λ x. ok_or (written_at policy.now user) (NoUser user)) }
-    ensures within { IfOk result (λ w. end w.place ≤ length memory.now) }
-{
-    policy.check_length(memory)?;
-    policy.written(user).ok_or(Refusal::NoUser { user })
-}
-
-// The rows of a range of a compartment that the user sees come to where the user writes, one by one: all of them, or none.
+/// The rows of a range of a compartment that the user sees come to where the user writes: all of them, or none.
 pub fn copy(
     policy: &Policy,
     memory: &mut [u64],
@@ -71,28 +60,18 @@ pub fn copy(
     compartment: u64,
     range: KeyRange,
 ) -> Result<(), Refusal>
-    ensures told { result ≡ copied_told policy.now user compartment range memory.old }
-    ensures after { memory.new ≡ copied policy.now user compartment range memory.old }
+    ensures told { result ≡ (copy_result policy.now memory.old user compartment range).told }
+    ensures after { memory.new ≡ (copy_result policy.now memory.old user compartment range).memory }
 {
-    policy.check_length(memory)?;
-    let refusal = Refusal::NoFlow { compartment };
-    if !policy.may_copy(user, compartment) {
-        return Err(refusal);
-    }
-    let written = policy.written(user).ok_or(refusal)?;
-    let from = policy.place(compartment).ok_or(refusal)?;
+    let copying = allowed_copy(policy, memory, user, compartment, range)?;
+    let written = copying.written;
     if written.compartment == compartment {
-        return copying::into_itself(memory, written);
+        return compartment::raise(&mut memory[part_of(written.place)], written);
     }
-    Between {
-        memory,
-        from,
-        written,
-    }
-    .copy(range)
+    copying::between(memory, copying)
 }
 
-// Any request.
+/// Any request.
 pub fn serve(
     policy: &Policy,
     memory: &mut [u64],
@@ -117,4 +96,47 @@ pub fn serve(
         }
     }
     Ok(Reply::Done)
+}
+
+// The compartment in which the user writes, within memory.
+fn written_in(policy: &Policy, memory: &[u64], user: usize) -> Result<Written, Refusal>
+    ensures told { result ≡ writer_told policy.now memory.now user }
+    ensures within { IfOk result (λ w. end w.place ≤ length memory.now) }
+{
+    policy.check_length(memory)?;
+    let Some(written) = policy.written(user) else {
+        return Err(Refusal::NoUser { user });
+    };
+    Ok(written)
+}
+
+// What is copied, if the user may: two compartments within memory, apart from each other if they are two.
+#[tactic(auto, using(crate::proofs::Places::written_apart))]
+fn allowed_copy(
+    policy: &Policy,
+    memory: &[u64],
+    user: usize,
+    compartment: u64,
+    range: KeyRange,
+) -> Result<Copying, Refusal>
+    ensures told { result ≡ copying_told policy.now memory.now user compartment range }
+    ensures within { IfOk result (λ c. (end c.from ≤ length memory.now) × (end c.written.place ≤ length memory.now)) }
+    ensures apart { IfOk result (λ c. c.written.compartment ≢ compartment → Apart c.from c.written.place) }
+{
+    policy.check_length(memory)?;
+    let refusal = Refusal::NoFlow { compartment };
+    if !policy.may_copy(user, compartment) {
+        return Err(refusal);
+    }
+    let Some(written) = policy.written(user) else {
+        return Err(refusal);
+    };
+    let Some(from) = policy.place(compartment) else {
+        return Err(refusal);
+    };
+    Ok(Copying {
+        from,
+        written,
+        range,
+    })
 }

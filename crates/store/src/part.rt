@@ -5,8 +5,7 @@ ghost use Rattle.store.specs.Memory.{end};
 use policy::Place;
 use std::ops::Range;
 
-// The version, the number of rows, and the room for rows, one behind the other.
-// `answering` cuts the same numbers out of memory: a public method of policy's `Place` would need a `requires` that its end is a number.
+// The version, the number of rows, and the room for rows. A public method of `Place` for it would have a `requires`.
 pub(crate) fn part_of(place: Place) -> Range<usize>
     requires { end place < 2 ^ 64 }
     ensures { result ≡ record { start = place.start; end = end place } }

@@ -1,11 +1,10 @@
 // A policy of three users: what it says, and how it is refused.
 use super::THREE;
-use base::Refusal;
 use policy::{Place, Policy};
 use std::test::Fail;
+use store::Refusal;
 
 // A refusal is what is asked for here, and no failure of a test.
-// A policy goes through no `?` and no `err()`: in a function that uses no `Contract` this is not proved (both tried in this file).
 fn refused(numbers: &[u64], most: u64) -> Option<Refusal> {
     match Policy::read(numbers, most) {
         Ok(_) => None,
@@ -24,7 +23,6 @@ fn refused_with(place: usize, number: u64) -> Option<Refusal> {
 
 #[test]
 fn says_who_sees_what(rt: HostRuntime) -> Result<(), Fail> {
-    // No `?` and no `expect`, for the reason at `refused` (both tried here).
     let Ok(policy) = Policy::read(&THREE, 64) else {
         return Err(Fail::from("refused"));
     };
@@ -45,7 +43,6 @@ fn says_who_sees_what(rt: HostRuntime) -> Result<(), Fail> {
 
 #[test]
 fn says_where_things_lie(rt: HostRuntime) -> Result<(), Fail> {
-    // As above: no `?` and no `expect`.
     let Ok(policy) = Policy::read(&THREE, 3) else {
         return Err(Fail::from("refused"));
     };

@@ -1,14 +1,12 @@
 // The store's calls on the memory of three users: refusals in their order, and both sides of every bound.
 use super::THREE;
-use base::Refusal;
-use policy::Policy;
-use request::Request;
-use rows::{KeyRange, Row};
+use store::{KeyRange, Policy, Refusal, Request, Row};
 
 // Compartments begin at 0, 8 and 16, with capacities 3, 3 and 2; memory has 598 numbers.
 const DIGITS: KeyRange = KeyRange { from: 0, to: 9 };
 
-// No version reaches this. It is said here once more, as every number below is, so that a wrong limit in `policy` is seen.
+// No version reaches this. It is said here once more, as every number below is: a check is independent of what it
+// checks.
 const LIMIT: u64 = 1 << 40;
 
 fn write(user: usize, key: u32) -> Request {
@@ -35,7 +33,6 @@ where
     F: FnOnce(&Policy) -> Result<T, Refusal>,
     requires { F.IsAlwaysCallable call }
 {
-    // A policy goes through no `and_then`: in a function that uses no `Contract` this is not proved (tried).
     match Policy::read(&THREE, 64) {
         Ok(policy) => call(&policy).err(),
         Err(refusal) => Some(refusal),

@@ -1,6 +1,7 @@
 // Traces of one user: what is printed, and how they end.
-use base::Refusal;
+use super::played::play;
 use std::test::Fail;
+use store::Refusal;
 
 // One user who sees and writes in compartment 0, of capacity 1.
 const POLICY: [u8; 22] = [
@@ -11,26 +12,26 @@ const POLICY: [u8; 22] = [
 fn plays_to_the_end(rt: HostRuntime) -> Result<(), Fail> {
     let mut bytes = POLICY.to_vec(rt.alloc())?;
     bytes.extend_from_slice(&[1, 1, 5, 0, 0, 0, 1, 77, 5, 0, 0, 0])?;
-    let played = trace_player::play(rt.alloc(), bytes.as_slice())?;
-    assert!(rt; played.text.as_str() == "1: not allowed\n77: no deed at 1\n");
+    let played = play(rt.alloc(), bytes.as_slice())?;
+    assert!(rt; played.text.as_slice() == b"1: not allowed\n77: no deed at 1\n".as_slice());
     assert!(rt; played.refused == None);
     Ok(())
 }
 
 #[test]
-fn breaks_off(rt: HostRuntime) -> Result<(), Fail> {
+fn ends_early(rt: HostRuntime) -> Result<(), Fail> {
     let mut bytes = POLICY.to_vec(rt.alloc())?;
     bytes.extend_from_slice(&[1, 1, 5, 0, 0, 0, 1, 0, 5, 0, 0])?;
-    let played = trace_player::play(rt.alloc(), bytes.as_slice())?;
-    assert!(rt; played.text.as_str() == "1: not allowed\n");
+    let played = play(rt.alloc(), bytes.as_slice())?;
+    assert!(rt; played.text.as_slice() == b"1: not allowed\n".as_slice());
     assert!(rt; played.refused == Some(Refusal::NoRequest { place: 2 }));
     Ok(())
 }
 
 #[test]
 fn refuses_a_policy(rt: HostRuntime) -> Result<(), Fail> {
-    let played = trace_player::play(rt.alloc(), &POLICY[0..21])?;
-    assert!(rt; played.text.as_str() == "");
+    let played = play(rt.alloc(), &POLICY[0..21])?;
+    assert!(rt; played.text.as_slice() == b"".as_slice());
     assert!(rt; played.refused == Some(Refusal::OutOfBounds { place: 20 }));
     Ok(())
 }
@@ -97,8 +98,8 @@ fn refuses_each_fault(rt: HostRuntime) -> Result<(), Fail> {
         if let Some(byte) = bytes.get_mut(case.place) {
             *byte = case.byte;
         }
-        let played = trace_player::play(rt.alloc(), &bytes)?;
-        assert!(rt; played.text.as_str() == "");
+        let played = play(rt.alloc(), &bytes)?;
+        assert!(rt; played.text.as_slice() == b"".as_slice());
         assert!(rt; played.refused == Some(case.refused));
     }
     Ok(())

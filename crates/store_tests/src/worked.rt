@@ -1,6 +1,9 @@
-// The worked example: whole, for one user, and cut at each of its bytes.
-use base::Refusal;
+// The worked example: whole, for one user, and truncated at each of its bytes.
+use super::played::{play, play_for};
+use output::Output;
 use std::test::Fail;
+use store::Refusal;
+use trace_player::MEMORY;
 
 // The bytes of examples/worked.trace.
 const WORKED: [u8; 259] = [
@@ -60,7 +63,8 @@ const TOLD: &str = "\
 // Where the policy ends: 56 numbers of a byte, three of two.
 const POLICY: usize = 62;
 
-// What a cut comes to: how many requests are told, and the first missing number as the reason to break off.
+// What a truncated trace comes to: how many requests are told, and the first missing number as the reason why it ends
+// there.
 fn expected(cut: usize) -> (usize, Option<Refusal>) {
     if cut < 56 {
         return (0, Some(Refusal::OutOfBounds { place: cut }));
@@ -88,11 +92,11 @@ fn expected(cut: usize) -> (usize, Option<Refusal>) {
 }
 
 #[test]
-fn cut_at_each_byte(rt: HostRuntime) -> Result<(), Fail> {
+fn truncated_at_each_byte(rt: HostRuntime) -> Result<(), Fail> {
     for cut in 0..=WORKED.len() {
-        let played = trace_player::play(rt.alloc(), &WORKED[0..cut])?;
+        let played = play(rt.alloc(), &WORKED[0..cut])?;
         let (told, refused) = expected(cut);
-        let ends = played.text.as_str().bytes().filter(|byte| *byte == b'\n');
+        let ends = played.text.iter().filter(|byte| **byte == b'\n');
         assert_eq!(rt; ends.count(), told);
         assert!(rt; played.refused == refused);
     }
@@ -101,8 +105,8 @@ fn cut_at_each_byte(rt: HostRuntime) -> Result<(), Fail> {
 
 #[test]
 fn plays_the_worked_example(rt: HostRuntime) -> Result<(), Fail> {
-    let played = trace_player::play(rt.alloc(), &WORKED)?;
-    assert!(rt; played.text.as_str() == TOLD);
+    let played = play(rt.alloc(), &WORKED)?;
+    assert!(rt; played.text.as_slice() == TOLD.as_bytes());
     assert!(rt; played.refused == None);
     Ok(())
 }
@@ -111,10 +115,10 @@ fn plays_the_worked_example(rt: HostRuntime) -> Result<(), Fail> {
 #[test]
 fn plays_for_one(rt: HostRuntime) -> Result<(), Fail> {
     let mut memory = [7; 600];
-    let played = trace_player::play_for(rt.alloc(), &mut memory, 1, &WORKED)?;
+    let played = play_for(rt.alloc(), &mut memory, 1, &WORKED)?;
     assert!(rt;
-        played.text.as_str()
-            == "1: done\n1: 1 row 10 looked at 1\n1: done\n1: not allowed\n1: 2 rows 11 looked at 2\n1: no row\n"
+        played.text.as_slice()
+            == b"1: done\n1: 1 row 10 looked at 1\n1: done\n1: not allowed\n1: 2 rows 11 looked at 2\n1: no row\n".as_slice()
     );
     assert!(rt; played.refused == None);
     assert!(rt; memory[0..8] == [0, 0, 0, 0, 0, 0, 0, 0]);
@@ -127,9 +131,26 @@ fn plays_for_one(rt: HostRuntime) -> Result<(), Fail> {
 #[test]
 fn needs_memory(rt: HostRuntime) -> Result<(), Fail> {
     let mut memory = [7; 597];
-    let played = trace_player::play_for(rt.alloc(), &mut memory, 1, &WORKED)?;
-    assert!(rt; played.text.as_str() == "");
+    let played = play_for(rt.alloc(), &mut memory, 1, &WORKED)?;
+    assert!(rt; played.text.as_slice() == b"".as_slice());
     assert!(rt; played.refused == Some(Refusal::OutOfBounds { place: 597 }));
     assert!(rt; memory == [7; 597]);
+    Ok(())
+}
+
+// A writer that takes no more than some bytes gets the beginning of the text.
+#[test]
+fn written_to_a_full_disk(rt: HostRuntime) -> Result<(), Fail> {
+    for room in 0..TOLD.len() {
+        let mut memory = [7; MEMORY];
+        let mut disk = [0; 512];
+        let Some(free) = disk.get_mut(..room) else {
+            return Err(Fail::from("a text as long as the disk"));
+        };
+        let mut out = Output::new(free);
+        assert!(rt; trace_player::play(&mut out, &mut memory, &WORKED).is_err());
+        assert!(rt; disk.get(..room) == TOLD.as_bytes().get(..room));
+        assert!(rt; disk.get(room) == Some(&0));
+    }
     Ok(())
 }

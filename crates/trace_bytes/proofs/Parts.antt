@@ -3,7 +3,7 @@ use Rattle.std.proofs.Common.{◌≡◌, ℕ, zero, suc, ◌+◌, ◌-◌, ◌�
 use borrow.Rule.Slice.PartMut.{post_of}
 use Rattle.std.proofs.lemmas.List.{take-append-drop, take_at, drop_at, take_rest}
 use Rattle.trace_bytes.specs.declared.layout.Layout.{Layout}
-use Rattle.trace_bytes.specs.Bytes.{words, numbers_in}
+use Rattle.trace_bytes.specs.Bytes.{numbers_each, numbers_in}
 use Rattle.trace_bytes.proofs.Filling.{words_most}
 
 -- what a part keeps behind its front, and what lies behind the part
@@ -32,13 +32,13 @@ module _ (layout : Layout) (bytes old first second : List ℕ) (s t : ℕ) (fits
   left = take (length bytes - s) (drop s bytes)
 
   module _
-      (s_is : s ≡ length (words 1 (length part) bytes)) (first_is : first ≡ words 1 (length part) bytes ++ drop s part)
-      (t_is : t ≡ length (words layout.width (length next) left)) (second_is : second ≡ words layout.width (length next) left ++ drop t next) where
+      (s_is : s ≡ length (numbers_each 1 (length part) bytes)) (first_is : first ≡ numbers_each 1 (length part) bytes ++ drop s part)
+      (t_is : t ≡ length (numbers_each layout.width (length next) left)) (second_is : second ≡ numbers_each layout.width (length next) left ++ drop t next) where
     abbrev singles : List ℕ
-    singles = words 1 layout.single bytes
+    singles = numbers_each 1 layout.single bytes
 
     abbrev wides : List ℕ
-    wides = words layout.width layout.wide (drop s bytes)
+    wides = numbers_each layout.width layout.wide (drop s bytes)
 
     part_long : length part ≡ layout.single
     part_long = simp length-take (omega arith)
@@ -62,7 +62,7 @@ module _ (layout : Layout) (bytes old first second : List ℕ) (s t : ℕ) (fits
     next_long : length next ≡ layout.wide
     next_long = rw next_is (simp (length-take, length-drop) (omega (arith, s_most)))
 
-    wides_are : words layout.width (length next) left ≡ wides
+    wides_are : numbers_each layout.width (length next) left ≡ wides
     wides_are = rw (next_long, take_rest bytes s)
 
     t_wides : t ≡ length wides

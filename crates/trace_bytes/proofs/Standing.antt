@@ -1,45 +1,131 @@
--- A request that is read from bytes is the one that is written there.
-use Rattle.std.proofs.Common.{◌≡◌, ℕ, zero, suc, ◌+◌, ◌*◌, ◌/◌, ◌%◌, ◌<◌, ◌≤◌, Bool, true, false, cond, ltb, List, [], ◌∷◌, ◌++◌, length, get_or, take, drop, Some, None, Ok, Err, Option, Result, sym, refl, ap, ◌∙◌, subst, append_assoc, append-nil, arith, length-append, length-drop, drop-drop}
-use Rattle.std.proofs.lemmas.List.{take_at, drop_at, take-append-drop, length-take-le, nil_from_length}
-use Rattle.std.proofs.lemmas.Bool.Decides.{nat_tests}
-use Rattle.base.specs.declared.refusal.Refusal.{Refusal}
-use Rattle.query.specs.declared.Query.TheVariants.{Rows, Total, Shared}
+-- A request that is read from bytes is the one that is written there, and one that isn't read is refused.
+use Rattle.std.proofs.Common.{◌≡◌, ℕ, zero, suc, ◌+◌, ◌*◌, ◌/◌, ◌%◌, ◌<◌, ◌≤◌, Bool, true, false, List, [], ◌∷◌, ◌++◌, length, take, drop, slice_get, Some, None, Ok, Err, Option, Result, sym, refl, ap, ◌∙◌, subst, append_assoc, append-nil, arith, length-append, length-drop, drop-drop}
+use Rattle.std.proofs.lemmas.List.{take_at, drop_at, take-append-drop, length-take-le, nil_from_length, take_all}
 use Rattle.request.specs.declared.Request.{Request}
-use Rattle.request.specs.declared.Request.TheVariants.{Write, Delete, Copy, Query}
+use Rattle.request.specs.declared.decoding.InvalidNumber.{InvalidNumber}
 use Rattle.request.specs.declared.kinds.Kind.{Kind}
 use Rattle.request.specs.declared.kinds.QueryKind.{QueryKind}
-use Rattle.request.specs.Kinds.{kind_numbered}
-use Rattle.request.specs.Decoded.{decoded}
-use Rattle.request.specs.Format.{bounds, numbers_of, WithinBounds}
-use Rattle.request.proofs.Reading.{reads_what_stands}
-use Rattle.request.proofs.Faults.{same_bounds}
+use Rattle.request.specs.Kinds.{kind_in, kind_numbered}
+use Rattle.request.specs.Fields.{fields, fields_of}
+use Rattle.request.specs.Decoded.{decode, decode_as}
+use Rattle.request.specs.Format.{kind_of, numbers_of, WithinBounds}
+use Rattle.request.proofs.Reading.{reads_what_stands, read_as, kind_read, numbers_long, number_is}
 use Rattle.trace_bytes.specs.declared.layout.Layout.{Layout}
 use Rattle.trace_bytes.specs.declared.item.Next.{Next}
-use Rattle.trace_bytes.specs.declared.item.Next.TheVariants.{End}
-use Rattle.trace_bytes.specs.NextRequest.{next_by, kind_in, query_kind_in, query_layout, kind_layout, request_layout, place_at_fault, whole}
-use Rattle.trace_bytes.specs.Bytes.{low_first, words, numbers_in, size}
-use Rattle.trace_bytes.specs.Written.{low_bytes, written, bytes_first, bytes_of, AllLess, RequestStands}
-use Rattle.trace_bytes.proofs.Ends.{single_of, query_single, kind_same, bounds_suit}
-use Rattle.trace_bytes.proofs.Filling.{words_more, words_most}
+use Rattle.trace_bytes.specs.declared.item.Next.TheVariants.{Fault, End}
+use Rattle.trace_bytes.specs.Bytes.{low_first, numbers_each, numbers_in, size, low_bytes, bytes_each, bytes_by}
+use Rattle.trace_bytes.specs.NextRequest.{next_of, is_whole, request_layout, request_numbers}
+use Rattle.trace_bytes.specs.Refused.{RefusedAtPlace}
+use Rattle.trace_bytes.specs.Written.{request_bytes, AllLess, RequestStands}
+use Rattle.trace_bytes.proofs.Filling.{words_more, words_most, words_short}
+use Rattle.trace_bytes.proofs.Lying.{words_take, each_single}
+use Rattle.trace_bytes.proofs.Wholes.{layout_long, read_takes}
 
-words_take : (n : ℕ) (bytes : List ℕ) → words 1 n bytes ≡ take n bytes
-words_take zero bytes = refl
-words_take (suc n) [] = refl
-words_take (suc n) (b ∷ bytes) =
-    let more = words_take n bytes in
-    let first : low_first (b ∷ []) ≡ b = omega arith in
-    words_more 1 (suc n) n (b ∷ bytes) refl (omega arith) ∙ cc
+-- THE KIND IN THE NUMBERS IS THAT IN THE BYTES
+
+-- the places in front of the wide numbers
+abbrev single : Option Kind → ℕ
+single o = (request_layout (fields_of o)).single
+
+-- a kind that isn't a query is known by its first number
+known_write : (a : ℕ) (third other : Option ℕ) → kind_numbered (Some a) third ≡ Some Kind.Write →
+    kind_numbered (Some a) other ≡ Some Kind.Write
+known_write a third other h = let n = number_is a third Kind.Write h in rw n refl
+
+known_delete : (a : ℕ) (third other : Option ℕ) → kind_numbered (Some a) third ≡ Some Kind.Delete →
+    kind_numbered (Some a) other ≡ Some Kind.Delete
+known_delete a third other h = let n = number_is a third Kind.Delete h in rw n refl
+
+known_copy : (a : ℕ) (third other : Option ℕ) → kind_numbered (Some a) third ≡ Some Kind.Copy →
+    kind_numbered (Some a) other ≡ Some Kind.Copy
+known_copy a third other h = let n = number_is a third Kind.Copy h in rw n refl
+
+-- what follows the first three bytes doesn't matter; nor does what follows fewer, if nothing does
+three_query : (o : Option Kind) (bytes more : List ℕ) → kind_in bytes ≡ o → (length bytes < 3 → more ≡ []) →
+    kind_in (take 3 bytes ++ more) ≡ o
+three_query o [] more h none = rw (none (omega arith)) h
+three_query o (a ∷ []) more h none = rw (none (omega arith)) h
+three_query o (a ∷ b ∷ []) more h none = rw (none (omega arith)) h
+three_query o (a ∷ b ∷ c ∷ bytes) more h none = h
+
+two_plain : (k : Kind) → ((a : ℕ) (third other : Option ℕ) → kind_numbered (Some a) third ≡ Some k → kind_numbered (Some a) other ≡ Some k) →
+    (bytes more : List ℕ) → kind_in bytes ≡ Some k → kind_in (take 2 bytes ++ more) ≡ Some k
+two_plain k known [] more h = absurd cc
+two_plain k known (a ∷ bytes) more h = known a (slice_get (a ∷ bytes) 2) (slice_get (take 2 (a ∷ bytes) ++ more) 2) h
+
+front_kind : (o : Option Kind) (bytes more : List ℕ) → kind_in bytes ≡ o → (length bytes < single o → more ≡ []) →
+    kind_in (take (single o) bytes ++ more) ≡ o
+front_kind None bytes more h none = three_query None bytes more h none
+front_kind (Some Kind.Write) bytes more h none = two_plain Kind.Write known_write bytes more h
+front_kind (Some Kind.Delete) bytes more h none = two_plain Kind.Delete known_delete bytes more h
+front_kind (Some Kind.Copy) bytes more h none = two_plain Kind.Copy known_copy bytes more h
+front_kind (Some (Kind.Query QueryKind.Rows)) bytes more h none = three_query (Some (Kind.Query QueryKind.Rows)) bytes more h none
+front_kind (Some (Kind.Query QueryKind.Total)) bytes more h none = three_query (Some (Kind.Query QueryKind.Total)) bytes more h none
+front_kind (Some (Kind.Query QueryKind.Shared)) bytes more h none = three_query (Some (Kind.Query QueryKind.Shared)) bytes more h none
+
+short_take : (n : ℕ) (bytes : List ℕ) → length bytes < n → drop (length (take n bytes)) bytes ≡ []
+short_take n bytes h = rw (take_all n bytes (omega arith)) (nil_from_length _ (simp length-drop (omega arith)))
+
+kind_same : (o : Option Kind) (bytes : List ℕ) → kind_in bytes ≡ o → kind_in (request_numbers o bytes) ≡ o
+kind_same o bytes h =
+    let layout : Layout = request_layout (fields_of o) in
+    let s : ℕ = single o in
+    rw (words_take s bytes)
+    (front_kind o bytes (numbers_each 4 layout.wide (drop (length (take s bytes)) bytes)) h
+    (λ few. rw (short_take s bytes few) (words_short 4 layout.wide [] (omega arith))))
+
+-- so the numbers are decoded as their kind in the bytes has it
+pub decoded_same : (bytes : List ℕ) →
+    decode (request_numbers (kind_in bytes) bytes) ≡ decode_as (kind_in bytes) (request_numbers (kind_in bytes) bytes)
+decoded_same bytes =
+    ap (λ (o : Option Kind). decode_as o (request_numbers (kind_in bytes) bytes)) (kind_same (kind_in bytes) bytes refl)
+
+-- WHAT IS TOLD OF THE NEXT REQUEST
+
+read_of : (whole : Bool) (user n m : ℕ) (r : Result Request InvalidNumber) (q : Request) →
+    next_of whole user n r ≡ Next.Request q m →
+    (r ≡ Ok q) × (n ≡ m)
+read_of whole user n m (Ok p) q h = (cc, cc)
+read_of true user n m (Err invalid) q h = absurd cc
+read_of false user n m (Err invalid) q h = absurd cc
+
+end_of : (whole : Bool) (user n place : ℕ) (r : Result Request InvalidNumber) → next_of whole user n r ≡ End place →
+    r ≡ Err (record { place = place })
+end_of whole user n place (Ok p) h = absurd cc
+end_of true user n place (Err invalid) h = absurd cc
+end_of false user n place (Err invalid) h = let is : invalid.place ≡ place = cc in rw (sym is) refl
+
+fault_of : (whole : Bool) (u n user place length : ℕ) (r : Result Request InvalidNumber) →
+    next_of whole u n r ≡ Fault user place length →
+    r ≡ Err (record { place = place })
+fault_of whole u n user place length (Ok p) h = absurd cc
+fault_of true u n user place length (Err invalid) h = let is : invalid.place ≡ place = cc in rw (sym is) refl
+fault_of false u n user place length (Err invalid) h = absurd cc
+
+pub refused_at_place : RefusedAtPlace
+refused_at_place = (
+  (λ bytes place h. decoded_same bytes ∙ end_of (is_whole (kind_in bytes) bytes) _ _ place _ h),
+  (λ bytes user place n h. decoded_same bytes ∙ fault_of (is_whole (kind_in bytes) bytes) _ _ user place n _ h),
+)
+
+-- THE BYTES OF A WHOLE REQUEST ARE ITS NUMBERS
 
 pub small_behind : (bound n : ℕ) (bytes : List ℕ) → AllLess bound bytes → AllLess bound (drop n bytes)
 small_behind bound zero bytes h = h
 small_behind bound (suc n) [] h = tt
 small_behind bound (suc n) (b ∷ bytes) h = small_behind bound n bytes h.1
 
+pub small_front : (bound n : ℕ) (xs : List ℕ) → AllLess bound xs → AllLess bound (take n xs)
+small_front bound zero xs h = tt
+small_front bound (suc n) [] h = tt
+small_front bound (suc n) (x ∷ xs) h = (h.0, small_front bound n xs h.1)
+
 -- the low byte, and the rest
 low : (a m : ℕ) → a < 256 → ((a + 256 * m) % 256 ≡ a) × ((a + 256 * m) / 256 ≡ m)
 low a m h = (omega arith, omega arith)
 
-four_bytes : (a b c d : ℕ) → a < 256 → b < 256 → c < 256 → d < 256 → low_bytes 4 (low_first (a ∷ b ∷ c ∷ d ∷ [])) ≡ a ∷ b ∷ c ∷ d ∷ []
+four_bytes : (a b c d : ℕ) → a < 256 → b < 256 → c < 256 → d < 256 →
+    low_bytes 4 (low_first (a ∷ b ∷ c ∷ d ∷ [])) ≡ a ∷ b ∷ c ∷ d ∷ []
 four_bytes a b c d ha hb hc hd =
     let nested : low_first (a ∷ b ∷ c ∷ d ∷ []) ≡ a + 256 * (b + 256 * (c + 256 * (d + 256 * 0))) = omega arith in
     let first = low a (b + 256 * (c + 256 * (d + 256 * 0))) ha in
@@ -49,74 +135,28 @@ four_bytes a b c d ha hb hc hd =
     ap (λ (n : ℕ). low_bytes 4 n) nested
     ∙ rw (first.0, first.1) (rw (second.0, second.1) (rw (third.0, third.1) (rw last.0)))
 
-written_words : (n : ℕ) (bytes : List ℕ) → 4 * n ≤ length bytes → AllLess 256 bytes → written 4 (words 4 n bytes) ≡ take (4 * n) bytes
-written_words zero bytes h small = refl
-written_words (suc n) [] h small = absurd (omega arith)
-written_words (suc n) (a ∷ []) h small = absurd (omega arith)
-written_words (suc n) (a ∷ b ∷ []) h small = absurd (omega arith)
-written_words (suc n) (a ∷ b ∷ c ∷ []) h small = absurd (omega arith)
-written_words (suc n) (a ∷ b ∷ c ∷ d ∷ bytes) h small =
+each_words : (n : ℕ) (bytes : List ℕ) → 4 * n ≤ length bytes → AllLess 256 bytes →
+    bytes_each 4 (numbers_each 4 n bytes) ≡ take (4 * n) bytes
+each_words zero bytes h small = refl
+each_words (suc n) [] h small = absurd (omega arith)
+each_words (suc n) (a ∷ []) h small = absurd (omega arith)
+each_words (suc n) (a ∷ b ∷ []) h small = absurd (omega arith)
+each_words (suc n) (a ∷ b ∷ c ∷ []) h small = absurd (omega arith)
+each_words (suc n) (a ∷ b ∷ c ∷ d ∷ bytes) h small =
     let product : 4 * suc n ≡ suc (suc (suc (suc (4 * n)))) = omega arith in
-    let more = written_words n bytes (omega arith) small.1.1.1.1 in
+    let more = each_words n bytes (omega arith) small.1.1.1.1 in
     let front = four_bytes a b c d small.0 small.1.0 small.1.1.0 small.1.1.1.0 in
-    ap (λ (ns : List ℕ). written 4 ns) (words_more 4 (suc n) n (a ∷ b ∷ c ∷ d ∷ bytes) refl (omega arith))
-    ∙ ap (λ (xs : List ℕ). xs ++ written 4 (words 4 n bytes)) front
+    ap (λ (ns : List ℕ). bytes_each 4 ns) (words_more 4 (suc n) n (a ∷ b ∷ c ∷ d ∷ bytes) refl (omega arith))
+    ∙ ap (λ (xs : List ℕ). xs ++ bytes_each 4 (numbers_each 4 n bytes)) front
     ∙ ap (λ (xs : List ℕ). a ∷ b ∷ c ∷ d ∷ xs) more
     ∙ ap (λ (k : ℕ). take k (a ∷ b ∷ c ∷ d ∷ bytes)) (sym product)
 
-read_by : (short : Bool) (r : Result Request Refusal) (user n m : ℕ) (q : Request) →
-    cond short (End (place_at_fault r)) (whole user n r) ≡ Next.Request q m → (short ≡ false) × (r ≡ Ok q) × (n ≡ m)
-read_by true r user n m q h = absurd cc
-read_by false (Ok p) user n m q h = (refl, cc, cc)
-read_by false (Err e) user n m q h = absurd cc
-
-bounds_long : (q : Request) → length (bounds (numbers_of q)) ≡ length (numbers_of q)
-bounds_long (Write user row) = refl
-bounds_long (Delete user key) = refl
-bounds_long (Copy user compartment range) = refl
-bounds_long (Query user (Rows range)) = refl
-bounds_long (Query user (Total range)) = refl
-bounds_long (Query user (Shared a b range)) = refl
-
-query_first : (asked : Option QueryKind) (layout : Layout) → query_layout asked ≡ Some layout → 3 ≡ layout.single
-query_first None layout e = absurd cc
-query_first (Some q) layout e = sym (query_single q layout e)
-
-bytes_first_is : (q : Request) (asked : Option QueryKind) (layout : Layout) →
-    kind_layout (kind_numbered (get_or (numbers_of q) 0 4)) asked ≡ Some layout → bytes_first q ≡ layout.single
-bytes_first_is (Write user row) asked layout e = single_of layout _ e
-bytes_first_is (Delete user key) asked layout e = single_of layout _ e
-bytes_first_is (Copy user compartment range) asked layout e = single_of layout _ e
-bytes_first_is (Query user (Rows range)) asked layout e = query_first asked layout e
-bytes_first_is (Query user (Total range)) asked layout e = query_first asked layout e
-bytes_first_is (Query user (Shared a b range)) asked layout e = query_first asked layout e
-
--- the numbers are those of the request and no more
-numbers_are : (layout : Layout) (bytes : List ℕ) (q : Request) → request_layout bytes ≡ Some layout →
-    decoded (numbers_in layout bytes) ≡ Ok q → numbers_in layout bytes ≡ numbers_of q
-numbers_are layout bytes q known h =
-    let xs : List ℕ = numbers_in layout bytes in
-    let singles : List ℕ = words 1 layout.single bytes in
-    let exact = bounds_suit layout bytes known in
-    let reads = reads_what_stands xs q h in
-    let rest : List ℕ = reads.1.0 in
-    let same : xs ≡ numbers_of q ++ rest = reads.1.1 in
-    let long : length (bounds xs) ≡ length (numbers_of q) =
-    ap (λ (ys : List ℕ). length (bounds ys)) same ∙ ap (λ (bs : List ℕ). length bs) (same_bounds q rest) ∙ bounds_long q in
-    let two = length-append singles (words layout.width layout.wide (drop (length singles) bytes)) in
-    let most = words_most 1 layout.single bytes in
-    let most_wide = words_most layout.width layout.wide (drop (length singles) bytes) in
-    let both : length xs ≡ length (numbers_of q) + length rest = ap (λ (ys : List ℕ). length ys) same ∙ length-append (numbers_of q) rest in
-    let none = nil_from_length rest (omega (arith, exact.all)) in
-    same ∙ ap (λ (ys : List ℕ). numbers_of q ++ ys) none ∙ append-nil (numbers_of q)
-
--- the bytes of a whole request are its numbers
 module _ (layout : Layout) (bytes : List ℕ) (four : layout.width ≡ 4) (small : AllLess 256 bytes) (whole : size layout ≤ length bytes) where
   abbrev s : ℕ
   s = layout.single
 
   abbrev wides : List ℕ
-  wides = words 4 layout.wide (drop s bytes)
+  wides = numbers_each 4 layout.wide (drop s bytes)
 
   all_there : s + 4 * layout.wide ≤ length bytes
   all_there = rw four at whole
@@ -127,13 +167,22 @@ module _ (layout : Layout) (bytes : List ℕ) (four : layout.width ≡ 4) (small
   numbers_split : numbers_in layout bytes ≡ take s bytes ++ wides
   numbers_split = rw (words_take s bytes, singles_long, four)
 
-  front_is : take s (numbers_in layout bytes) ≡ take s bytes
-  front_is = rw numbers_split (take_at (take s bytes) wides s singles_long)
+  wides_few : length wides ≤ layout.wide
+  wides_few = words_most 4 layout.wide (drop s bytes)
 
-  back_is : written 4 (drop s (numbers_in layout bytes)) ≡ take (4 * layout.wide) (drop s bytes)
-  back_is =
-      rw (numbers_split, drop_at (take s bytes) wides s singles_long)
-      (written_words layout.wide (drop s bytes) (simp length-drop (omega (arith, all_there))) (small_behind 256 s bytes small))
+  written_there : bytes_by layout (numbers_in layout bytes) ≡ take s bytes ++ take (4 * layout.wide) (drop s bytes)
+  written_there =
+      let front = each_single (take s bytes) (small_front 256 s bytes small) in
+      let back = each_words layout.wide (drop s bytes) (simp length-drop (omega (arith, all_there))) (small_behind 256 s bytes small) in
+      rw (
+        numbers_split,
+        take_at (take s bytes) wides s singles_long,
+        drop_at (take s bytes) wides s singles_long,
+        front,
+        take_all layout.wide wides wides_few,
+        four,
+        back,
+      ) refl
 
   split : bytes ≡ (take s bytes ++ take (4 * layout.wide) (drop s bytes)) ++ drop (s + 4 * layout.wide) bytes
   split =
@@ -146,28 +195,48 @@ module _ (layout : Layout) (bytes : List ℕ) (four : layout.width ≡ 4) (small
       length-take-le (4 * layout.wide) (drop s bytes) (simp length-drop (omega (arith, all_there))) in
       length-append (take s bytes) (take (4 * layout.wide) (drop s bytes)) ∙ omega (arith, wide, singles_long)
 
-  written_there : (q : Request) → numbers_in layout bytes ≡ numbers_of q → bytes_first q ≡ s →
-      bytes_of q ≡ take s bytes ++ take (4 * layout.wide) (drop s bytes)
-  written_there q same first = rw (first, ← same) (rw (front_is, back_is))
+numbers_few : (layout : Layout) (bytes : List ℕ) → length (numbers_in layout bytes) ≤ layout.single + layout.wide
+numbers_few layout bytes =
+    let singles : List ℕ = numbers_each 1 layout.single bytes in
+    let both = length-append singles (numbers_each layout.width layout.wide (drop (length singles) bytes)) in
+    let most = words_most 1 layout.single bytes in
+    let most_wide = words_most layout.width layout.wide (drop (length singles) bytes) in
+    omega arith
 
-stands : (bytes : List ℕ) (o : Option Layout) (q : Request) (n : ℕ) → request_layout bytes ≡ o → AllLess 256 bytes → next_by o bytes ≡ Next.Request q n →
-    WithinBounds q × (n ≡ length (bytes_of q)) × (bytes ≡ bytes_of q ++ drop n bytes)
-stands bytes None q n known small h = absurd cc
-stands bytes (Some layout) q n known small h =
-    let xs : List ℕ = numbers_in layout bytes in
-    let read = read_by (ltb (length bytes) (size layout)) (decoded xs) (get_or bytes 1 0) (size layout) n q h in
-    let exact = bounds_suit layout bytes known in
-    let whole : size layout ≤ length bytes = let t = read.0 in grind (arith, nat_tests) in
-    let same = numbers_are layout bytes q known read.1 in
-    let kinds : kind_in bytes ≡ kind_numbered (get_or (numbers_of q) 0 4) =
-    sym (kind_same layout bytes (omega (arith, exact.fours)) (omega (arith, exact.starts))) ∙ ap (λ (ys : List ℕ). kind_numbered (get_or ys 0 4)) same in
-    let first = bytes_first_is q (query_kind_in bytes) layout (subst (λ (k : Option Kind). kind_layout k (query_kind_in bytes) ≡ Some layout) kinds known) in
-    let there = written_there layout bytes exact.fours small whole q same first in
-    let n_is : layout.single + 4 * layout.wide ≡ n = ap (λ (w : ℕ). layout.single + w * layout.wide) (sym exact.fours) ∙ read.2 in (
-      (reads_what_stands xs q read.1).0,
-      rw there (sym n_is ∙ sym (split_long layout bytes exact.fours small whole)),
-      rw (there, ← n_is) (split layout bytes exact.fours small whole),
-    )
+-- numbers that begin with a request and are no more than its fields are its numbers
+exactly : (xs : List ℕ) (q : Request) → decode xs ≡ Ok q → length xs ≤ length (fields (kind_of q)) →
+    WithinBounds q × (xs ≡ numbers_of q)
+exactly xs q h few =
+    let reads = reads_what_stands xs q h in
+    let rest : List ℕ = reads.1.0 in
+    let long = numbers_long q in
+    let both : length xs ≡ length (numbers_of q) + length rest = ap (λ (ys : List ℕ). length ys) reads.1.1 ∙ length-append (numbers_of q) rest in
+    let none = nil_from_length rest (omega arith) in
+    (reads.0, reads.1.1 ∙ ap (λ (ys : List ℕ). numbers_of q ++ ys) none ∙ append-nil (numbers_of q))
+
+-- what is read is of the kind in the bytes
+kind_told : (xs : List ℕ) (o : Option Kind) (q : Request) → decode_as o xs ≡ Ok q → o ≡ Some (kind_of q)
+kind_told xs o q h =
+    let read = read_as xs o q h in
+    read.known ∙ ap (λ (k : Kind). Some k) (sym (kind_read read.kind xs) ∙ ap (λ (r : Request). kind_of r) read.is)
 
 pub request_stands : RequestStands
-request_stands bytes q n small h = stands bytes (request_layout bytes) q n refl small h
+request_stands bytes q n small h =
+    let o : Option Kind = kind_in bytes in
+    let xs : List ℕ = request_numbers o bytes in
+    let told = read_of (is_whole o bytes) _ _ n (decode_as o xs) q h in
+    let kind = kind_told xs o q told.0 in
+    let layout : Layout = request_layout (fields (kind_of q)) in
+    let same : request_layout (fields_of o) ≡ layout = ap (λ (o : Option Kind). request_layout (fields_of o)) kind in
+    let numbers : xs ≡ numbers_in layout bytes = ap (λ (l : Layout). numbers_in l bytes) same in
+    let takes = (read_takes o bytes q told.0).1 in
+    let whole = subst (λ (l : Layout). size l ≤ length bytes) same takes in
+    let few = numbers_few layout bytes in
+    let is = exactly xs q (decoded_same bytes ∙ told.0) (rw numbers (let long = layout_long (fields (kind_of q)) in omega arith)) in
+    let there : request_bytes q ≡ take layout.single bytes ++ take (4 * layout.wide) (drop layout.single bytes) =
+    ap (λ (ns : List ℕ). bytes_by layout ns) (sym is.1 ∙ numbers) ∙ written_there layout bytes refl small whole in
+    let n_is : size layout ≡ n = ap (λ (l : Layout). size l) (sym same) ∙ told.1 in (
+      is.0,
+      rw there (sym n_is ∙ sym (split_long layout bytes refl small whole)),
+      rw (there, ← n_is) (split layout bytes refl small whole),
+    )

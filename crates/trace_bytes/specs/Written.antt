@@ -1,36 +1,30 @@
 -- Requests and policies as they are written into a trace, and that they are read again.
-use Rattle.std.specs.Prelude.{◌≡◌, ℕ, zero, suc, ◌*◌, ◌/◌, ◌%◌, ◌^◌, ◌<◌, ◌≤◌, List, [], ◌∷◌, ◌++◌, length, take, drop}
+use Rattle.std.specs.Prelude.{◌≡◌, ℕ, ◌+◌, ◌^◌, ◌<◌, ◌≤◌, List, ◌++◌, length, take, drop}
 use Rattle.std.specs.List.{AllByRecursion, flat_map}
+use Rattle.policy.specs.Numbers.{users_in, compartments_in, user_at}
 use Rattle.request.specs.declared.Request.{Request}
-use Rattle.request.specs.declared.Request.TheVariants.{Write, Delete, Copy, Query}
-use Rattle.request.specs.Format.{numbers_of, WithinBounds}
+use Rattle.request.specs.Fields.{fields}
+use Rattle.request.specs.Format.{kind_of, numbers_of, WithinBounds}
 use Rattle.trace_bytes.specs.declared.item.Next.{Next}
-use Rattle.trace_bytes.specs.Bytes.{numbers_in, size}
-use Rattle.trace_bytes.specs.NextRequest.{next_in}
-use Rattle.trace_bytes.specs.PolicyNumbers.{policy_layout}
+use Rattle.trace_bytes.specs.Bytes.{bytes_by, size}
+use Rattle.trace_bytes.specs.NextRequest.{next_in, request_layout}
+use Rattle.trace_bytes.specs.PolicyNumbers.{policy_layout, policy_of, policy_bytes}
 
--- a number in so many bytes, low byte first
-abbrev pub low_bytes : ℕ → ℕ → List ℕ
-low_bytes zero n = []
-low_bytes (suc width) n = n % 256 ∷ low_bytes width (n / 256)
+abbrev pub request_bytes : Request → List ℕ
+request_bytes q = bytes_by (request_layout (fields (kind_of q))) (numbers_of q)
 
-abbrev pub written : ℕ → List ℕ → List ℕ
-written width ns = flat_map (low_bytes width) ns
+abbrev pub requests_bytes : List Request → List ℕ
+requests_bytes qs = flat_map request_bytes qs
 
--- how many numbers of a request are a byte each
-abbrev pub bytes_first : Request → ℕ
-bytes_first (Write user row) = 2
-bytes_first (Delete user key) = 2
-bytes_first (Copy user compartment range) = 2
-bytes_first (Query user query) = 3
+-- the bytes of a trace: the numbers of its policy, then its requests
+abbrev pub trace_bytes : List ℕ → List Request → List ℕ
+trace_bytes ns qs = policy_bytes ns ++ requests_bytes qs
 
-abbrev pub bytes_of : Request → List ℕ
-bytes_of q = take (bytes_first q) (numbers_of q) ++ written 4 (drop (bytes_first q) (numbers_of q))
-
--- a request that is written is the next one, whatever stands behind it
+-- a request that is written is the next one, whatever follows it
 abbrev pub RequestRoundTrip : Type 0
 RequestRoundTrip =
-    (q : Request) (rest : List ℕ) → WithinBounds q → next_in (bytes_of q ++ rest) ≡ Next.Request q (length (bytes_of q))
+    (q : Request) (rest : List ℕ) → WithinBounds q →
+    next_in (request_bytes q ++ rest) ≡ Next.Request q (length (request_bytes q))
 
 abbrev pub AllLess : ℕ → List ℕ → Type 0
 AllLess bound ns = AllByRecursion (λ n. n < bound) ns
@@ -39,17 +33,19 @@ AllLess bound ns = AllByRecursion (λ n. n < bound) ns
 abbrev pub RequestStands : Type 0
 RequestStands =
     (bytes : List ℕ) (q : Request) (n : ℕ) → AllLess 256 bytes → next_in bytes ≡ Next.Request q n →
-    WithinBounds q × (n ≡ length (bytes_of q)) × (bytes ≡ bytes_of q ++ drop n bytes)
+    WithinBounds q × (n ≡ length (request_bytes q)) × (bytes ≡ request_bytes q ++ drop n bytes)
 
--- a policy in bytes: the counts, the numbers of all users, and the capacities in two bytes each
-abbrev pub policy_bytes : ℕ → ℕ → List ℕ → List ℕ → List ℕ
-policy_bytes users compartments views capacities = users ∷ compartments ∷ (views ++ written 2 capacities)
+-- numbers as many as their counts announce, each within the bytes that it has
+pub record InPlaces (ns : List ℕ) : Type 0 where
+  pub users : users_in ns ≤ 32
+  pub compartments : compartments_in ns ≤ 16
+  pub long : length ns ≡ user_at (users_in ns) + compartments_in ns
+  pub single : AllLess 256 (take (user_at (users_in ns)) ns)
+  pub wide : AllLess (2 ^ 16) (drop (user_at (users_in ns)) ns)
 
 -- the numbers of a policy that is written are read again, and behind its bytes the requests begin
 abbrev pub PolicyRoundTrip : Type 0
 PolicyRoundTrip =
-    (users compartments : ℕ) (views capacities rest : List ℕ) →
-    users ≤ 32 → compartments ≤ 16 → length views ≡ 18 * users → length capacities ≡ compartments → AllLess (2 ^ 16) capacities →
-    (numbers_in (policy_layout (policy_bytes users compartments views capacities ++ rest)) (policy_bytes users compartments views capacities ++ rest)
-    ≡ users ∷ compartments ∷ (views ++ capacities))
-    × (size (policy_layout (policy_bytes users compartments views capacities ++ rest)) ≡ length (policy_bytes users compartments views capacities))
+    (ns rest : List ℕ) → InPlaces ns →
+    (policy_of (policy_bytes ns ++ rest) ≡ ns)
+    × (size (policy_layout (policy_bytes ns ++ rest)) ≡ length (policy_bytes ns))

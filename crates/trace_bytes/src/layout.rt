@@ -1,10 +1,13 @@
-// How numbers lie in bytes, and reading them.
-ghost use Rattle.std.specs.Prelude.{◌≡◌, ◌+◌, ◌≤◌, ◌++◌, length, drop};
-ghost use Rattle.trace_bytes.specs.Bytes.{numbers_in, size};
+// How numbers lie in bytes: reading them, and writing them.
+ghost use Rattle.std.specs.Prelude.{◌≡◌, ◌+◌, ◌≤◌, ◌++◌, length, take, drop, OnOk};
+ghost use Rattle.trace_bytes.specs.Bytes.{bytes_by, numbers_in, size};
+ghost use Rattle.trace_bytes.specs.NextRequest.{byte_fields, request_layout};
 
-use crate::numbers::fill;
+use crate::numbers::{fill, push_numbers};
+use request::Field;
+use std::alloc::AllocError;
 
-// So many numbers of a byte each, then so many of `width` bytes each.
+/// So many numbers of a byte each, then so many of `width` bytes each.
 #[derive(Clone, Copy)]
 pub struct Layout {
     pub single: u16,
@@ -12,7 +15,28 @@ pub struct Layout {
     pub width: u8,
 }
 
+fn byte_fields(fields: &[Field]) -> usize
+    ensures count { result ≡ byte_fields fields.now }
+    ensures few { result ≤ length fields.now }
+{
+    fields.iter().filter(|field| field.width() == 1).count()
+}
+
 impl Layout {
+    // That of a request with these fields.
+    pub(crate) fn of(fields: &[Field]) -> Layout
+        requires { length fields.now ≤ 7 }
+        ensures value { result ≡ request_layout fields.now }
+        ensures few { result.single + result.wide ≤ 7 }
+    {
+        let single = byte_fields(fields);
+        Layout {
+            single: single as u16,
+            wide: (fields.len() - single) as u8,
+            width: 4,
+        }
+    }
+
     // How many bytes all the numbers take.
     pub(crate) fn size(self) -> usize
         ensures { result ≡ size self }
@@ -21,8 +45,7 @@ impl Layout {
     }
 
     // Fills `numbers` with those that lie in the bytes, as far as they are there, and says how many these are.
-    // A count, since a caller of `policy_numbers` has lent the memory; where the buffer is this crate's own, `read` gives the part.
-    pub(crate) fn fill(self, bytes: &[u8], numbers: &mut [u64]) -> usize
+    fn fill(self, bytes: &[u8], numbers: &mut [u64]) -> usize
         requires { self.single + self.wide ≤ length numbers.old }
         ensures count { result ≡ length (numbers_in self bytes.now) }
         ensures within { result ≤ length numbers.old }
@@ -46,4 +69,23 @@ impl Layout {
         let count = self.fill(bytes, numbers);
         &numbers[..count]
     }
+
+    // Writes as many of the numbers as have a place.
+    pub(crate) fn push(self, bytes: &mut Vec<u8>, numbers: &[u64]) -> Result<(), AllocError>
+        requires { self.width ≤ 8 }
+        ensures { OnOk result (bytes.new.items ≡ bytes.old.items ++ bytes_by self numbers.now) }
+    {
+        let (single, others) = first_part(numbers, usize::from(self.single));
+        let (wide, _) = first_part(others, usize::from(self.wide));
+        push_numbers(bytes, 1, single)?;
+        push_numbers(bytes, usize::from(self.width), wide)
+    }
+}
+
+// The first so many numbers, as far as they are there, and the others.
+fn first_part(numbers: &[u64], count: usize) -> (&[u64], &[u64])
+    ensures first { result.0.now ≡ take count numbers.now }
+    ensures others { result.1.now ≡ drop count numbers.now }
+{
+    numbers.split_at(count.min(numbers.len()))
 }

@@ -1,15 +1,15 @@
-// A trace from bytes: the numbers of its policy, and its requests one after the other.
+//! A trace in bytes: its policy and its requests, read and written.
 #![tactic(auto)]
 
-ghost use Rattle.std.specs.Prelude.{◌≡◌, ◌≤◌, min, ◌++◌, length, drop, IfOk};
-ghost use Rattle.policy.specs.Numbers.{judged};
-ghost use Rattle.policy.specs.Read.{Reads, why};
+ghost use Rattle.std.specs.Prelude.{◌≡◌, min, drop, IfOk};
+ghost use Rattle.policy.specs.Numbers.{policy_fault};
+ghost use Rattle.policy.specs.Read.{ReadsPolicy, why};
 ghost use Rattle.trace_bytes.specs.Bytes.{size};
-ghost use Rattle.trace_bytes.specs.NextRequest.{Takes, next_in};
-ghost use Rattle.trace_bytes.specs.PolicyNumbers.{policy_layout, policy_numbers, policy_of};
+ghost use Rattle.trace_bytes.specs.PolicyNumbers.{policy_layout, policy_of};
+ghost use Rattle.trace_bytes.specs.Written.{trace_bytes};
 
 mod item;
-mod laws;
+pub mod laws;
 mod layout;
 mod numbers;
 mod policies;
@@ -17,74 +17,54 @@ mod requests;
 
 use base::Refusal;
 pub use item::Next;
-pub use laws::{
-    policy_round_trip_stands, refused_at_place_stands, request_round_trip_stands, request_stands,
-};
+use numbers::byte_at;
 pub use policies::CAPACITY;
-use policies::{MOST_NUMBERS, policy_layout};
+use policies::{MOST_NUMBERS, policy_layout, push_policy};
 use policy::Policy;
-use requests::{decode_by, fours, place_at_fault, request_layout};
+use request::Request;
+pub use requests::next;
+use requests::push_requests;
+use std::alloc::{AllocError, Global};
 
-// The request at the front of the bytes. `length` is how many of them it takes.
-pub fn next(bytes: &[u8]) -> Next
-    ensures value { result ≡ next_in bytes.now }
-    ensures takes { Takes (length bytes.now) result }
+/// A trace whose policy was read, and the bytes of the requests behind it.
+#[derive(Clone, Copy)]
+pub struct Opening<'a> {
+    pub policy: Policy,
+    pub requests: &'a [u8],
+}
+
+/// Reads the policy at the front of the bytes, with capacities of at most `most` rows, and never more than 4,096.
+pub fn open(bytes: &[u8], most: u64) -> Result<Opening<'_>, Refusal>
+    ensures refused { why result ≡ policy_fault (min most 4096) (policy_of bytes.now) }
+    ensures reads { IfOk result (λ opening. ReadsPolicy (policy_of bytes.now) opening.policy) }
+    ensures behind { IfOk result (λ opening. opening.requests.now ≡ drop (size (policy_layout bytes.now)) bytes.now) }
 {
-    let Some(layout) = request_layout(bytes) else {
-        return Next::End {
-            place: place_at_fault(decode_by(fours(3, 0), bytes)),
-        };
-    };
-    let decoded = decode_by(layout, bytes);
-    let length = layout.size();
-    if bytes.len() < length {
-        return Next::End {
-            place: place_at_fault(decoded),
-        };
-    }
-    match decoded {
-        Ok(request) => Next::Request { request, length },
-        Err(_) => Next::Fault {
-            user: bytes[1],
-            place: place_at_fault(decoded),
-            length,
-        },
+    let layout = policy_layout(byte_at(bytes, 0).into(), byte_at(bytes, 1).into());
+    match Policy::read(layout.read(bytes, &mut [0; MOST_NUMBERS]), most) {
+        Ok(policy) => Ok(Opening {
+            policy,
+            requests: bytes.get(layout.size()..).unwrap_or(&[]),
+        }),
+        Err(refusal) => Err(refusal),
     }
 }
 
-// The numbers of the policy at the front of the bytes, as far as they are there, and how many these are.
-// Where `numbers` has no place for the largest policy, nothing is written.
-// A count and no `Vec`: this crate has no heap, and the memory that is filled is the caller's, lent. `read_policy` fills a buffer of its own.
-pub fn policy_numbers(bytes: &[u8], numbers: &mut [u64]) -> usize
-    ensures within { result ≤ length numbers.old }
-    ensures count { result ≡ length (policy_numbers (length numbers.old) bytes.now) }
-    ensures after { numbers.new ≡ policy_numbers (length numbers.old) bytes.now ++ drop result numbers.old }
+/// The bytes of a trace, in memory of their own: nothing else is written, also where memory runs out.
+pub fn write(heap: Global, numbers: &[u64], requests: &[Request]) -> Result<Vec<u8>, AllocError>
+    ensures { IfOk result (λ bytes. bytes.items ≡ trace_bytes numbers.now requests.now) }
 {
-    if numbers.len() < MOST_NUMBERS {
-        return 0;
-    }
-    policy_layout(bytes).fill(bytes, numbers)
-}
-
-// The policy at the front of the bytes, with capacities of at most `most` rows, and never more than 4,096.
-pub fn read_policy(bytes: &[u8], most: u64) -> Result<Policy, Refusal>
-    ensures refused { why result ≡ judged (min most 4096) (policy_of bytes.now) }
-    ensures reads { IfOk result (λ p. Reads (policy_of bytes.now) p) }
-{
-    let layout = policy_layout(bytes);
-    Policy::read(layout.read(bytes, &mut [0; MOST_NUMBERS]), most)
-}
-
-// How many bytes the policy takes: where the requests begin.
-pub fn policy_length(bytes: &[u8]) -> usize
-    ensures { result ≡ size (policy_layout bytes.now) }
-{
-    policy_layout(bytes).size()
+    let mut bytes = Vec::new(heap);
+    push_policy(&mut bytes, numbers)?;
+    push_requests(&mut bytes, requests)?;
+    Ok(bytes)
 }
 
 #[cfg(test)]
 mod tests {
     use super::*;
+    use query::Query;
+    use rows::KeyRange;
+    use std::test::Fail;
 
     #[test]
     fn reads_requests(rt: HostRuntime) {
@@ -150,15 +130,64 @@ mod tests {
 
     #[test]
     fn reads_policies(rt: HostRuntime) {
-        let mut numbers = [5; 594];
-        assert_eq!(rt; policy_numbers(&[33, 1, 7], &mut numbers), 2);
         let bytes = [
-            1, 1, 1, 0, 0, 0, 0, 0, 0, 0, 0, 0, 0, 0, 0, 0, 0, 0, 0, 0, 1, 2,
+            1, 1, 1, 0, 0, 0, 0, 0, 0, 0, 0, 0, 0, 0, 0, 0, 0, 0, 0, 0, 1, 2, 7,
         ];
-        assert_eq!(rt; policy_numbers(&bytes, &mut numbers), 21);
-        assert_eq!(rt; numbers[20], 513);
-        assert_eq!(rt; numbers[21], 5);
-        assert_eq!(rt; policy_length(&bytes), 22);
-        assert_eq!(rt; policy_numbers(&bytes, &mut numbers[0..593]), 0);
+        assert!(rt; refused_policy(&bytes, 513).is_none());
+        assert_eq!(rt;
+            refused_policy(&bytes, 512),
+            Some(Refusal::OutOfBounds { place: 20 })
+        );
+        assert_eq!(rt;
+            refused_policy(&bytes[0..21], 513),
+            Some(Refusal::OutOfBounds { place: 20 })
+        );
+        assert_eq!(rt;
+            refused_policy(&[33, 1, 7], 64),
+            Some(Refusal::OutOfBounds { place: 0 })
+        );
+    }
+
+    // Why the policy is refused, if it is; what is behind one that is read is the 7.
+    fn refused_policy(bytes: &[u8], most: u64) -> Option<Refusal> {
+        match open(bytes, most) {
+            Ok(opening) => (opening.requests != [7].as_slice()).then_some(Refusal::OutOfBounds {
+                place: 99,
+            }),
+            Err(refusal) => Some(refusal),
+        }
+    }
+
+    #[test]
+    fn writes_what_it_reads(rt: HostRuntime) -> Result<(), Fail> {
+        let range = KeyRange {
+            from: 1,
+            to: 0xffff_ffff,
+        };
+        let requests = [
+            Request::Delete { user: 31, key: 258 },
+            Request::Query {
+                user: 0,
+                query: Query::Shared { a: 15, b: 0, range },
+            },
+        ];
+        let bytes = write(rt.alloc(), &[0, 2, 64, 513], &requests)?;
+        assert!(rt;
+            bytes.as_slice()
+                == [
+                    0, 2, 64, 0, 1, 2, //
+                    1, 31, 2, 1, 0, 0, //
+                    3, 0, 2, 15, 0, 0, 0, 0, 0, 0, 0, 1, 0, 0, 0, 255, 255, 255, 255,
+                ]
+                .as_slice()
+        );
+        assert_eq!(rt;
+            next(&bytes.as_slice()[6..]),
+            Next::Request {
+                request: requests[0],
+                length: 6
+            }
+        );
+        Ok(())
     }
 }

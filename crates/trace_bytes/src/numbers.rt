@@ -1,6 +1,8 @@
-// Reading numbers from bytes into a lent slice.
-ghost use Rattle.std.specs.Prelude.{◌≡◌, ◌*◌, ◌≤◌, ◌++◌, length, drop, slice_index};
-ghost use Rattle.trace_bytes.specs.Bytes.{low_first, words};
+// Numbers of so many bytes each, low byte first: reading them into a lent slice, and writing them.
+ghost use Rattle.std.specs.Prelude.{◌≡◌, ◌*◌, ◌≤◌, ◌++◌, length, drop, slice_index, OnOk};
+ghost use Rattle.trace_bytes.specs.Bytes.{bytes_each, low_first, numbers_each};
+
+use std::alloc::AllocError;
 
 // A missing byte counts as 0.
 pub(crate) fn byte_at(bytes: &[u8], place: usize) -> u8
@@ -24,10 +26,10 @@ fn low_first(bytes: &[u8]) -> u64
 // Fills `numbers` with numbers of `width` bytes each as far as there are bytes, and says how many these are.
 pub(crate) fn fill(bytes: &[u8], width: usize, numbers: &mut [u64]) -> usize
     ensures within { (result ≤ length numbers.old) × (width * result ≤ length bytes.now) }
-    ensures count { result ≡ length (words width (length numbers.old) bytes.now) }
-    ensures after { numbers.new ≡ words width (length numbers.old) bytes.now ++ drop result numbers.old }
+    ensures count { result ≡ length (numbers_each width (length numbers.old) bytes.now) }
+    ensures after { numbers.new ≡ numbers_each width (length numbers.old) bytes.now ++ drop result numbers.old }
 {
-    // Cut by hand: `zip(bytes.chunks_exact(width))` requires `0 < width`, which a `Layout` doesn't promise, and after `iter_mut` with `zip` a proof knows no element.
+    // The bytes are cut by hand, since `chunks_exact` requires a width above 0.
     let mut rest = bytes;
     for (place, number) in numbers.iter_mut().enumerate() {
         let Some((word, behind)) = rest.split_at_checked(width) else {
@@ -37,4 +39,19 @@ pub(crate) fn fill(bytes: &[u8], width: usize, numbers: &mut [u64]) -> usize
         rest = behind;
     }
     numbers.len()
+}
+
+// Writes numbers in so many bytes each, low byte first.
+pub(crate) fn push_numbers(
+    bytes: &mut Vec<u8>,
+    width: usize,
+    numbers: &[u64],
+) -> Result<(), AllocError>
+    requires { width ≤ 8 }
+    ensures { OnOk result (bytes.new.items ≡ bytes.old.items ++ bytes_each width numbers.now) }
+{
+    for number in numbers {
+        bytes.extend_from_slice(&number.to_le_bytes()[..width])?;
+    }
+    Ok(())
 }

@@ -1,67 +1,57 @@
 // How requests lie in bytes.
-ghost use Rattle.request.specs.Decoded.{decoded};
-ghost use Rattle.std.specs.Prelude.{◌≡◌, IfSome, slice_get};
-ghost use Rattle.trace_bytes.specs.Bytes.{numbers_in};
-ghost use Rattle.trace_bytes.specs.NextRequest.{KindIn, OfRequest, fours, place_at_fault, request_layout};
+ghost use Rattle.std.specs.Prelude.{◌≡◌, ◌++◌, List, Option, length, slice_get, OnOk};
+ghost use Rattle.request.specs.Kinds.{kind_in};
+ghost use Rattle.trace_bytes.specs.NextRequest.{is_whole, next_in, Takes};
+ghost use Rattle.trace_bytes.specs.Written.{request_bytes, requests_bytes};
 
+use crate::item::Next;
 use crate::layout::Layout;
-use base::Refusal;
-use request::{Kind, QueryKind, Request, decode};
+use crate::numbers::byte_at;
+use request::{InvalidNumber, Kind, MOST_FIELDS, Request, decode_as, fields_of};
+use std::alloc::AllocError;
 
-// The kind whose number is the byte there.
-fn kind_in<K: TryFrom<u64>>(bytes: &[u8], place: usize) -> Option<K>
-where
-    K::Error: Drop,
-    ensures { KindIn K.try_from_gives (slice_get bytes.now place) result }
+// The byte there, as a number.
+fn number_at(bytes: &[u8], place: usize) -> Option<u64>
+    ensures { result ≡ slice_get bytes.now place }
 {
-    let byte = *bytes.get(place)?;
-    K::try_from(u64::from(byte)).ok()
+    bytes.get(place).map(|byte| u64::from(*byte))
 }
 
-// So many numbers of a byte each, then so many of four.
-pub(crate) fn fours(single: u16, wide: u8) -> Layout
-    ensures { result ≡ fours single wide }
+/// The request at the front of the bytes; `length` is how many of them it takes.
+pub fn next(bytes: &[u8]) -> Next
+    ensures value { result ≡ next_in bytes.now }
+    ensures takes { Takes (length bytes.now) result }
 {
-    Layout {
-        single,
-        wide,
-        width: 4,
+    let kind = Kind::of(number_at(bytes, 0), number_at(bytes, 2));
+    let layout = Layout::of(fields_of(kind));
+    let length = layout.size();
+    match decode_as(kind, layout.read(bytes, &mut [0; MOST_FIELDS])) {
+        Ok(request) => Next::Request { request, length },
+        Err(InvalidNumber { place }) => {
+            if kind.is_none() || bytes.len() < length {
+                return Next::End { place };
+            }
+            Next::Fault {
+                user: byte_at(bytes, 1),
+                place,
+                length,
+            }
+        }
     }
 }
 
-// How the request lies in the bytes, if its kind is known and, for a query, the kind of query.
-pub(crate) fn request_layout(bytes: &[u8]) -> Option<Layout>
-    ensures value { result ≡ request_layout bytes.now }
-    ensures few { IfSome result OfRequest }
+fn push_request(bytes: &mut Vec<u8>, request: Request) -> Result<(), AllocError>
+    ensures { OnOk result (bytes.new.items ≡ bytes.old.items ++ request_bytes request) }
 {
-    let layout = match kind_in(bytes, 0)? {
-        Kind::Write => fours(2, 2),
-        Kind::Delete => fours(2, 1),
-        Kind::Copy => fours(2, 3),
-        Kind::Query => match kind_in(bytes, 2)? {
-            QueryKind::Rows | QueryKind::Total => fours(3, 2),
-            QueryKind::Shared => fours(3, 4),
-        },
-    };
-    Some(layout)
+    let kind = Kind::from(request);
+    Layout::of(fields_of(Some(kind))).push(bytes, &request.numbers())
 }
 
-// The request that the numbers in the bytes stand for.
-pub(crate) fn decode_by(layout: Layout, bytes: &[u8]) -> Result<Request, Refusal>
-    requires { OfRequest layout }
-    ensures { result ≡ decoded (numbers_in layout bytes.now) }
+pub(crate) fn push_requests(bytes: &mut Vec<u8>, requests: &[Request]) -> Result<(), AllocError>
+    ensures { OnOk result (bytes.new.items ≡ bytes.old.items ++ requests_bytes requests.now) }
 {
-    decode(layout.read(bytes, &mut [0; 7]))
-}
-
-// The place at which numbers are refused.
-// The types of `decode` allow other refusals, and a request: the law `RefusedAtPlace` says that none comes here, so the last arm never runs.
-// `decode` keeps the wide type: the definitions and laws of `request` speak of refusals, which have numbers and places.
-pub(crate) fn place_at_fault(decoded: Result<Request, Refusal>) -> usize
-    ensures { result ≡ place_at_fault decoded }
-{
-    match decoded {
-        Err(Refusal::NoRequest { place }) => place,
-        _ => 0,
+    for request in requests {
+        push_request(bytes, *request)?;
     }
+    Ok(())
 }

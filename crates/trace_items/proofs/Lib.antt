@@ -1,3 +1,2 @@
 -- Lemmas on what comes of the bytes of a trace, and on how playing ends.
 pub mod Outcomes
-pub mod Ended

@@ -1,27 +1,27 @@
-// What stands in a trace behind its policy: what users bring, one after the other, until the trace ends.
+// What follows the policy in a trace: what users bring, one after the other, until the trace ends.
 ghost use Rattle.std.specs.Iterator.{YieldsFirst, item_count};
 ghost use Rattle.std.specs.Prelude.{◌≡◌, ◌≤◌, length};
-ghost use Rattle.trace_items.specs.Items.{first_by, from, left, outcomes_of};
+ghost use Rattle.trace_items.specs.Items.{first_by, item_user, left, outcomes_in};
 ghost use Rattle.trace_bytes.specs.NextRequest.{next_in};
 
 use base::Refusal;
 use request::Request;
 use trace_bytes::Next;
 
-// One thing that a user brings.
-// Two variants of `trace_bytes::Next` once more: that tells how many bytes are taken too, and of the end of the trace, and what is played has neither.
-// No Result: a request at fault is told and played on behind like any other, and an error struct of user and place would name only these two numbers again.
+/// What a user brings: a request, or numbers that are none.
+// A `Next` has more: how many bytes are taken, and the end of the trace.
 #[derive(Clone, Copy, PartialEq, Eq, Debug)]
 pub enum Item {
+    /// A request, all of whose numbers are within their bounds.
     Request { request: Request },
-    // A number in it is out of bounds, the lowest such at this place.
+    /// The number at this place is the first that is out of its bounds.
     NoRequest { user: usize, place: usize },
 }
 
 impl Item {
-    // The user who brings it.
+    /// The user who brings it.
     pub fn user(self) -> usize
-        ensures { result ≡ from self }
+        ensures { result ≡ item_user self }
     {
         match self {
             Item::Request { request } => request.user(),
@@ -30,21 +30,18 @@ impl Item {
     }
 }
 
-// The items in the bytes; where the trace is broken off, the refusal comes last.
+/// The items in bytes, one after the other; where the trace is broken off, the refusal comes last.
 #[derive(Clone, Copy)]
 pub struct Items<'a> {
     bytes: &'a [u8],
 }
 
 impl<'a> Items<'a> {
-    // Those of a trace, behind its policy.
-    pub fn of(trace: &'a [u8]) -> Items<'a>
-        ensures { left result ≡ outcomes_of trace.now }
+    /// Those in the bytes that follow the policy of a trace.
+    pub fn of(requests: &'a [u8]) -> Items<'a>
+        ensures { left result ≡ outcomes_in requests.now }
     {
-        let start = trace_bytes::policy_length(trace);
-        Items {
-            bytes: trace.get(start..).unwrap_or(&[]),
-        }
+        Items { bytes: requests }
     }
 }
 

@@ -1,9 +1,9 @@
--- What is lent along a trace is enough: a policy that is not refused stays within the bounds of its numbers.
+-- The memory and the answer row along a trace are enough: a policy that is not refused stays within the bounds of its numbers.
 use Rattle.std.proofs.Common.{◌≡◌, ℕ, suc, ◌+◌, ◌-◌, ◌*◌, ◌%◌, ◌<◌, ◌≤◌, Bool, true, false, cond, not, ◌&&◌, eqb, ltb, leb, List, [], ◌∷◌, length, get_or, take, drop, Some, None, Option, refl, ap, inl, inr, arith}
 use Rattle.compartment.specs.Parts.{limit}
-use Rattle.model.specs.Model.{State, Response, Kept, done, refused, may_copy, needed, capacities, there, changing, filling, answering, look_up, copied}
+use Rattle.model.specs.Model.{State, Response, CachedAnswer, done, refused, may_copy, needed_length, capacity_sum, is_user, respond_change, respond_fill, respond_query, look_up, rows_after_copy}
 use Rattle.policy.specs.Layout.{size, end_from}
-use Rattle.policy.specs.Numbers.{judged, within, between, places, users_in, compartments_in, user_at, view_in, writes_in, rules_in}
+use Rattle.policy.specs.Numbers.{policy_fault, within, between, places, users_in, compartments_in, user_at, view_in, writes_in, rules_in}
 use Rattle.policy.specs.Policies.{all_within}
 use Rattle.policy.specs.Rules.{Rules, has, sees}
 use Rattle.policy.specs.Views.{distinct_below}
@@ -18,9 +18,10 @@ use Rattle.rows.specs.Rows.{put, has_key}
 use Rattle.rows.specs.declared.Row.{Row}
 use Rattle.std.proofs.lemmas.List.{get_or-take, get_or-drop, length-take}
 use Rattle.std.proofs.lemmas.Bool.{cond_both, cond-true, and_parts, and_from, or_parts, or_cases, not-false, leb-true, le-leb, ltb-true, eqb-true, both_ways}
+use Rattle.std.proofs.lemmas.List.Sums.{sum_by-cons}
 use Rattle.std.proofs.lemmas.Bool.Decides.{nat_tests}
 use Rattle.trace_player.specs.Enough.{MemoryEnough, RowEnough, NeverShort}
-use Rattle.trace_player.specs.Printed.{lent, item_tells}
+use Rattle.trace_player.specs.Printed.{longest_row, item_tells}
 use Rattle.trace_items.specs.declared.items.Item.{Item}
 use Rattle.trace_items.specs.declared.items.Item.TheVariants as item
 use Rattle.trace_bytes.specs.PolicyNumbers.{policy_of}
@@ -33,7 +34,7 @@ pub record Within (xs : List ℕ) : Type 0 where
   pub capacities : (c : ℕ) → c < compartments_in xs → get_or xs (user_at (users_in xs) + c) 0 ≤ 64
   pub views : (u : ℕ) → u < users_in xs → distinct_below (compartments_in xs) (view_in xs u) ≡ true
 
-module _ (xs : List ℕ) (e : judged 64 xs ≡ None) where
+module _ (xs : List ℕ) (e : policy_fault 64 xs ≡ None) where
   stands : (k : ℕ) → k < places xs → within 64 (users_in xs) k (get_or xs k 0) ≡ true
   stands k h = not-false _ (or_parts (leb (length xs) k) _ (((judged_lowest 64 xs).2 e).0 k h)).1
 
@@ -77,25 +78,26 @@ memory_enough bytes e =
     omega (arith, end_bound 0 (take n rest) each, few n rest, b.users, b.compartments)
 
 module _ (p : Rules) where
-  all_bound : (n : ℕ) → ((c : ℕ) → c < n → p.capacity c ≤ 64) → (cs : List ℕ) → distinct_below n cs ≡ true → capacities p.capacity cs ≤ 64 * length cs
+  all_bound : (n : ℕ) → ((c : ℕ) → c < n → p.capacity c ≤ 64) → (cs : List ℕ) → distinct_below n cs ≡ true → capacity_sum p.capacity cs ≤ 64 * length cs
   all_bound n each [] e = omega arith
   all_bound n each (c ∷ cs) e =
       let t = and_parts (ltb c n) _ e in
-      omega (arith, each c (ltb-true c n t.0), all_bound n each cs (and_parts (not (has cs c)) (distinct_below n cs) t.1).1)
+      rw (sum_by-cons p.capacity c cs)
+      (omega (arith, each c (ltb-true c n t.0), all_bound n each cs (and_parts (not (has cs c)) (distinct_below n cs) t.1).1))
 
   -- a compartment that is seen is among those that are summed
-  among : (cs : List ℕ) (a : ℕ) → has cs a ≡ true → p.capacity a ≤ capacities p.capacity cs
+  among : (cs : List ℕ) (a : ℕ) → has cs a ≡ true → p.capacity a ≤ capacity_sum p.capacity cs
   among [] a e = absurd (both_ways false refl e)
-  among (c ∷ cs) a e = elim (or_cases (eqb c a) (has cs a) e) [
+  among (c ∷ cs) a e = rw (sum_by-cons p.capacity c cs) (elim (or_cases (eqb c a) (has cs a) e) [
     | inl s ↦ let f = ap p.capacity (eqb-true c a s) in omega arith
     | inr s ↦ omega (arith, among cs a s)
-  ]
+  ])
 
-  needed_bound : (user : ℕ) (query : Query) → needed p user query ≤ 32 + 2 * capacities p.capacity (p.view user)
+  needed_bound : (user : ℕ) (query : Query) → needed_length p user query ≤ 32 + 2 * capacity_sum p.capacity (p.view user)
   needed_bound user (Rows range) = omega arith
   needed_bound user (Total range) = omega arith
   needed_bound user (Shared a b range) =
-      cond_both (sees p user a && sees p user b) (32 + 2 * p.capacity a) 0 (λ n. n ≤ 32 + 2 * capacities p.capacity (p.view user))
+      cond_both (sees p user a && sees p user b) (32 + 2 * p.capacity a) 0 (λ n. n ≤ 32 + 2 * capacity_sum p.capacity (p.view user))
       (λ t. omega (arith, among (p.view user) a (and_parts (sees p user a) (sees p user b) t).0)) (λ t. omega arith)
 
 pub row_enough : RowEnough
@@ -120,32 +122,32 @@ either true r q f g = f refl
 either false r q f g = g
 
 module _ (p : Rules) (s : State) where
-  changing_other : (c : ℕ) → Other (changing limit s c)
+  changing_other : (c : ℕ) → Other (respond_change limit s c)
   changing_other c = either (ltb (suc (s.version c)) limit) done (refused (LastVersion c)) (λ _ n e. cc) (λ n e. cc)
 
-  filling_other : (c : ℕ) (new : List Row) → Other (filling p limit s c new)
+  filling_other : (c : ℕ) (new : List Row) → Other (respond_fill p limit s c new)
   filling_other c new =
-      either (leb (length new) (p.capacity c)) (changing limit s c) (refused (NoRoom (p.capacity c))) (λ _. changing_other c) (λ n e. cc)
+      either (leb (length new) (p.capacity c)) (respond_change limit s c) (refused (NoRoom (p.capacity c))) (λ _. changing_other c) (λ n e. cc)
 
-  answering_other : (user : ℕ) (query : Query) (o : Option Kept) → Other (answering p s user query o)
+  answering_other : (user : ℕ) (query : Query) (o : Option CachedAnswer) → Other (respond_query p s user query o)
   answering_other user query (Some kept) n e = cc
   answering_other user query None n e = cc
 
   -- of somebody who is there
-  user_other : (user : ℕ) (r : Response) → (user < p.users → Other r) → Other (cond (there p user) r (refused (NoUser user)))
-  user_other user r f = either (there p user) r (refused (NoUser user)) (λ t. f (ltb-true user p.users t)) (λ n e. cc)
+  user_other : (user : ℕ) (r : Response) → (user < p.users → Other r) → Other (cond (is_user p user) r (refused (NoUser user)))
+  user_other user r f = either (is_user p user) r (refused (NoUser user)) (λ t. f (ltb-true user p.users t)) (λ n e. cc)
 
-  item_other : ((user : ℕ) (query : Query) → user < p.users → needed p user query ≤ lent) → (i : Item) → Other (item_tells p s i)
+  item_other : ((user : ℕ) (query : Query) → user < p.users → needed_length p user query ≤ longest_row) → (i : Item) → Other (item_tells p s i)
   item_other enough (item.NoRequest user place) = λ n e. cc
   item_other enough (item.Request (request.Write user row)) = user_other user _ (λ _. filling_other (p.writes user) (put row (s.rows (p.writes user))))
   item_other enough (item.Request (request.Delete user key)) =
       let c = p.writes user in
-      user_other user _ (λ _. either (has_key key (s.rows c)) (changing limit s c) (refused (NoRow key)) (λ _. changing_other c) (λ n e. cc))
+      user_other user _ (λ _. either (has_key key (s.rows c)) (respond_change limit s c) (refused (NoRow key)) (λ _. changing_other c) (λ n e. cc))
   item_other enough (item.Request (request.Copy user c range)) =
-      let new = copied p s user c range in
-      either (may_copy p user c) (filling p limit s (p.writes user) new) (refused (NoFlow c)) (λ _. filling_other (p.writes user) new) (λ n e. cc)
+      let new = rows_after_copy p s user c range in
+      either (may_copy p user c) (respond_fill p limit s (p.writes user) new) (refused (NoFlow c)) (λ _. filling_other (p.writes user) new) (λ n e. cc)
   item_other enough (item.Request (request.Query user query)) =
-      user_other user _ (λ h. rw (le-leb (needed p user query) lent (enough user query h)) (answering_other user query (look_up p s user query)))
+      user_other user _ (λ h. rw (le-leb (needed_length p user query) longest_row (enough user query h)) (answering_other user query (look_up p s user query)))
 
 pub never_short : NeverShort
 never_short bytes e s = item_other (rules_in (policy_of bytes)) s (row_enough bytes e)

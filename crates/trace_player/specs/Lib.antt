@@ -1,5 +1,5 @@
 -- What the contracts of this crate cite.
 pub mod Printed
-pub mod Along
-pub mod Played
+pub mod Turns
+pub mod Playing
 pub mod Enough

@@ -2,7 +2,7 @@
 ghost use Rattle.std.specs.Prelude.{◌≡◌};
 ghost use Rattle.model.specs.Model.{lend, relevant};
 ghost use Rattle.policy.specs.Access.{rules_of};
-ghost use Rattle.trace_player.specs.Printed.{concerns_one, lent};
+ghost use Rattle.trace_player.specs.Printed.{concerns_one, longest_row};
 
 use policy::Policy;
 use request::Request;
@@ -18,10 +18,9 @@ pub(crate) fn concerns(policy: &Policy, user: usize, item: Item) -> bool
     }
 }
 
-// A request is relevant to its own user, and to who sees where it may change something. The random traces of `twice` have the same test
-// for themselves: it is a rule of the project that a check is independent of what it checks.
+// A request is relevant to its own user, and to whoever sees where it may change something.
 fn is_relevant(policy: &Policy, user: usize, request: Request) -> bool
-    ensures { result ≡ relevant (rules_of policy.now) user (lend request lent) }
+    ensures { result ≡ relevant (rules_of policy.now) user (lend request longest_row) }
 {
     let other = request.user();
     if other == user {

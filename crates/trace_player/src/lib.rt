@@ -1,43 +1,55 @@
-// Playing a trace, for everyone or purged for one user: what is told, line by line, and how the trace ended.
+//! Playing a trace, for everyone or purged for one user: what is told, line by line, and how the trace ends.
 #![tactic(auto)]
 
-ghost use Rattle.std.specs.Prelude.{◌≡◌, length, Some, IfOk, string_bytes, OnOk};
-ghost use Rattle.trace_player.specs.Played.{text_by, text_of, end_by, end_of, opening_with, LeftBy};
+ghost use Rattle.std.specs.Prelude.{◌≡◌, length, None, Some, IfOk, OnOk, OnErr};
+ghost use Rattle.output.specs.Output.{WritesAll};
+ghost use Rattle.trace_player.specs.Playing.{text_of, play_end, LeavesOf, Breaks};
 
 mod concerns;
 pub mod laws;
 mod opening;
 mod turns;
 
-use opening::{play_everyone, play_one};
-use std::alloc::{AllocError, Global};
-pub use trace_items::Played;
+use base::Refusal;
+use opening::play_to;
+use output::Output;
+use std::io::{self, Write};
 
-// `play` and `play_for` share three lines: one function for both would be public and take what plays as a closure, and no public
-// function here requires anything.
+/// As many numbers as the largest policy of a trace asks for.
+pub const MEMORY: usize = 8224;
 
-// Plays the trace in the bytes for everyone.
-pub fn play(heap: Global, bytes: &[u8]) -> Result<Played, AllocError>
-    ensures text { IfOk result (λ x. string_bytes x.text ≡ text_of bytes.now) }
-    ensures end { IfOk result (λ x. x.refused ≡ end_of bytes.now) }
+// The law `memory_enough` is about this number.
+const _: () = prove!(MEMORY == 8224);
+
+/// Plays the trace in the bytes for everyone, and says why it was refused or broken off, if it was.
+///
+/// It fails only if the writer fails.
+pub fn play<W: Write>(
+    out: &mut Output<W>,
+    memory: &mut [u64],
+    bytes: &[u8],
+) -> io::Result<Option<Refusal>>
+    ensures end { IfOk result (λ end. end ≡ play_end (length memory.old) bytes.now) }
+    ensures text { OnOk result (WritesAll out.old out.new (text_of None (length memory.old) bytes.now)) }
+    ensures after { OnOk result (LeavesOf None bytes.now memory.old memory.new) }
+    ensures broken { OnErr result (Breaks None bytes.now out.old out.new memory.old memory.new) }
 {
-    let mut text = String::new(heap);
-    let end = play_everyone(heap, &mut text, bytes);
-    Played::new(text, end)
+    play_to(out, memory, None, bytes)
 }
 
-// Plays only what is relevant to one user, in lent memory; and what they are told is what the whole trace tells them.
-pub fn play_for(
-    heap: Global,
+/// Plays only what is relevant to one user; what they are told is what the whole trace tells them.
+///
+/// It fails only if the writer fails.
+pub fn play_for<W: Write>(
+    out: &mut Output<W>,
     memory: &mut [u64],
     user: usize,
     bytes: &[u8],
-) -> Result<Played, AllocError>
-    ensures text { IfOk result (λ x. string_bytes x.text ≡ text_by (Some user) (opening_with (length memory.old) bytes.now) bytes.now) }
-    ensures end { IfOk result (λ x. x.refused ≡ end_by (opening_with (length memory.old) bytes.now) bytes.now) }
-    ensures after { OnOk result (LeftBy (opening_with (length memory.old) bytes.now) user bytes.now memory.old memory.new) }
+) -> io::Result<Option<Refusal>>
+    ensures end { IfOk result (λ end. end ≡ play_end (length memory.old) bytes.now) }
+    ensures text { OnOk result (WritesAll out.old out.new (text_of (Some user) (length memory.old) bytes.now)) }
+    ensures after { OnOk result (LeavesOf (Some user) bytes.now memory.old memory.new) }
+    ensures broken { OnErr result (Breaks (Some user) bytes.now out.old out.new memory.old memory.new) }
 {
-    let mut text = String::new(heap);
-    let end = play_one(&mut text, memory, user, bytes);
-    Played::new(text, end)
+    play_to(out, memory, Some(user), bytes)
 }

@@ -7,8 +7,8 @@ use Rattle.policy.specs.Numbers.{users_in, compartments_in, user_at, view_in, wr
 use Rattle.policy.specs.Rules.{has}
 use Rattle.policy.specs.Views.{distinct_below}
 use Rattle.trace_bytes.specs.Written.{AllLess}
-use Rattle.trace_text.specs.Lines.{Seen, single_numbers, stage_of}
-use Rattle.trace_text.specs.Said.{contract_numbers, padded}
+use Rattle.trace_text.specs.Lines.{UserView, single_numbers, stage_of}
+use Rattle.trace_text.specs.Said.{contract_numbers, view_places}
 use Rattle.trace_text.specs.declared.stages.Stage.{Stage}
 use Rattle.trace_text.specs.declared.stages.Stage.TheVariants as stage
 use Rattle.trace_text.proofs.Oks.{Stands}
@@ -17,8 +17,10 @@ use Rattle.trace_text.proofs.Oks.{Stands}
 pub record Good (ns : List ℕ) : Type 0 where
   pub users : 0 < length ns → (1 ≤ users_in ns) × (users_in ns ≤ 32)
   pub compartments : 1 < length ns → (1 ≤ compartments_in ns) × (compartments_in ns ≤ 16)
-  pub views : (u : ℕ) → user_at u + 18 ≤ length ns → u < users_in ns → (1 ≤ get_or ns (user_at u) 0) × (get_or ns (user_at u) 0 ≤ 16) × (bad_view ns u ≡ false)
-  pub capacities : (c : ℕ) → user_at (users_in ns) + c < length ns → (1 ≤ get_or ns (user_at (users_in ns) + c) 0) × (get_or ns (user_at (users_in ns) + c) 0 ≤ 64)
+  pub views : (u : ℕ) → user_at u + 18 ≤ length ns → u < users_in ns →
+      (1 ≤ get_or ns (user_at u) 0) × (get_or ns (user_at u) 0 ≤ 16) × (bad_view ns u ≡ false)
+  pub capacities : (c : ℕ) → user_at (users_in ns) + c < length ns →
+      (1 ≤ get_or ns (user_at (users_in ns) + c) 0) × (get_or ns (user_at (users_in ns) + c) 0 ≤ 64)
   pub shape : 1 < length ns →
       ((k : ℕ) × (k ≤ users_in ns) × (length ns ≡ user_at k)) ⊎ ((c : ℕ) × (c ≤ compartments_in ns) × (length ns ≡ user_at (users_in ns) + c))
   pub small : AllLess 256 ns
@@ -50,7 +52,8 @@ stage_fits ns =
       ]
     ]
 
-pub all_append : {A : Type 0} (P : A → Type 0) (xs ys : List A) → AllByRecursion P xs → AllByRecursion P ys → AllByRecursion P (xs ++ ys)
+pub all_append : {A : Type 0} (P : A → Type 0) (xs ys : List A) → AllByRecursion P xs → AllByRecursion P ys →
+    AllByRecursion P (xs ++ ys)
 all_append P [] ys a b = b
 all_append P (x ∷ xs) ys a b = (a.0, all_append P xs ys a.1 b)
 
@@ -91,7 +94,8 @@ module _ (ns xs : List ℕ) where
       let long = length-drop (user_at u + 1) ns in
       rw (first, drop-append-le (user_at u + 1) ns xs (omega arith)) (take-append-le (get_or ns (user_at u) 0) (drop (user_at u + 1) ns) xs (omega arith))
 
-  bad_front : (u : ℕ) → user_at u + 18 ≤ length ns → get_or ns (user_at u) 0 ≤ 16 → bad_view (ns ++ xs) u ≡ bad_view ns u
+  bad_front : (u : ℕ) → user_at u + 18 ≤ length ns → get_or ns (user_at u) 0 ≤ 16 →
+      bad_view (ns ++ xs) u ≡ bad_view ns u
   bad_front u h few =
       let view = view_front u h few in
       let writes = get_d_front (user_at u + 17) (omega arith) in
@@ -130,12 +134,12 @@ two_counts u n g b = record {
 }
 
 -- a user's eighteen numbers behind those of the users before
-module _ (ns : List ℕ) (g : Good ns) (k : ℕ) (long : length ns ≡ user_at k) (low : k < users_in ns) (c : Seen) (s : Stands (compartments_in ns) c) where
+module _ (ns : List ℕ) (g : Good ns) (k : ℕ) (long : length ns ≡ user_at k) (low : k < users_in ns) (c : UserView) (s : Stands (compartments_in ns) c) where
   abbrev cs : List ℕ
   cs = c.view
 
   abbrev places : List ℕ
-  places = padded cs
+  places = view_places cs
 
   abbrev xs : List ℕ
   xs = contract_numbers c
@@ -188,9 +192,10 @@ module _ (ns : List ℕ) (g : Good ns) (k : ℕ) (long : length ns ≡ user_at k
       let counts = get_d_front ns xs 1 two in
       rw (counts, view_here, writes_here) (not_from_true _ s.stands)
 
-  user_views : (u : ℕ) → user_at u + 18 ≤ length all → u < users_in all → (1 ≤ get_or all (user_at u) 0) × (get_or all (user_at u) 0 ≤ 16) × (bad_view all u ≡ false)
+  user_views : (u : ℕ) → user_at u + 18 ≤ length all → u < users_in all →
+      (1 ≤ get_or all (user_at u) 0) × (get_or all (user_at u) 0 ≤ 16) × (bad_view all u ≡ false)
   user_views u h below =
-      let whole = all_long in
+      let check_end = all_long in
       elim (cases_eq u k) [
         | inl e ↦ let few = s.few in let some = written.1 in let here = count_here in rw e (omega arith, omega arith, good_here)
         | inr e ↦ views_front ns xs g two u (omega arith) below
@@ -200,13 +205,13 @@ module _ (ns : List ℕ) (g : Good ns) (k : ℕ) (long : length ns ≡ user_at k
   one_more_user =
       let users = get_d_front ns xs 0 (omega arith) in
       let compartments = get_d_front ns xs 1 two in
-      let whole = all_long in
+      let check_end = all_long in
       record {
         users = λ _. let b = g.users (omega arith) in (omega (arith, b.0), omega (arith, b.1));
         compartments = λ _. let b = g.compartments two in (omega (arith, b.0), omega (arith, b.1));
         views = user_views;
         capacities = λ d h. absurd (omega arith);
-        shape = λ _. inl (k + 1, omega arith, whole);
+        shape = λ _. inl (k + 1, omega arith, check_end);
         small =
             let b = (g.compartments two).1 in
             let few = s.few in
@@ -230,9 +235,10 @@ module _ (ns : List ℕ) (g : Good ns) (c : ℕ) (two : 1 < length ns) (long : l
   same_users : users_in more ≡ users_in ns
   same_users = get_d_front ns (n ∷ []) 0 (omega arith)
 
-  capacity_at : (d : ℕ) → user_at (users_in ns) + d < length more → (1 ≤ get_or more (user_at (users_in ns) + d) 0) × (get_or more (user_at (users_in ns) + d) 0 ≤ 64)
+  capacity_at : (d : ℕ) → user_at (users_in ns) + d < length more →
+      (1 ≤ get_or more (user_at (users_in ns) + d) 0) × (get_or more (user_at (users_in ns) + d) 0 ≤ 64)
   capacity_at d h =
-      let whole = more_long in
+      let check_end = more_long in
       elim (cases_eq d c) [
         | inl e ↦
             let here = get_or_at ns n [] 0 (user_at (users_in ns) + c) long in
@@ -247,7 +253,7 @@ module _ (ns : List ℕ) (g : Good ns) (c : ℕ) (two : 1 < length ns) (long : l
   one_more_capacity =
       let users = same_users in
       let compartments = get_d_front ns (n ∷ []) 1 two in
-      let whole = more_long in
+      let check_end = more_long in
       record {
         users = λ _. let o = g.users (omega arith) in (omega (arith, o.0), omega (arith, o.1));
         compartments = λ _. let o = g.compartments two in (omega (arith, o.0), omega (arith, o.1));

@@ -1,7 +1,6 @@
 -- Lemmas on lines that are read and bytes that are written; the last has the law.
 pub mod Oks
 pub mod Viewing
-pub mod Pushes
 pub mod Turns
 pub mod Good
 pub mod Back

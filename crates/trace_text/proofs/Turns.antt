@@ -14,7 +14,7 @@ use Rattle.std.specs.declared.slice.Split.{Split}
 use denote.Param.Members.{Mut}
 use Rattle.trace_text.specs.Words.{lines}
 use Rattle.trace_text.specs.Lines.{and_then}
-use Rattle.trace_text.specs.Said.{Fails, Said, at_line, line_said, lines_said, whole}
+use Rattle.trace_text.specs.Said.{FailsAs, Content, at_line, line_said, lines_said, check_end}
 use Rattle.trace_text.specs.declared.fault.Fault.{Fault}
 use Rattle.trace_text.specs.declared.fault.ReadError.{ReadError}
 use Rattle.trace_text.specs.declared.fault.ReadError.TheVariants as error
@@ -37,21 +37,24 @@ module _ (lines : List (List ℕ)) (n i : ℕ) (line : List ℕ)
   pair = turn.1 ∙ get_or-enumerate_from 0 lines n (i, line) there ∙ ap (λ (m : ℕ). (m, get_or lines n line)) (omega arith)
 
   -- what the lines from there on say
-  said_on : (said : Said) → and_then (at_line (i + 1) (line_said said line)) (λ more. lines_said (n + 1 + 1) more (drop (n + 1) lines)) ≡ lines_said (n + 1) said (drop n lines)
+  said_on : (said : Content) → and_then (at_line (i + 1) (line_said said line)) (λ more. lines_said (n + 1 + 1) more (drop (n + 1) lines)) ≡ lines_said (n + 1) said (drop n lines)
   said_on said =
       ap (λ (p : ℕ × List ℕ). and_then (at_line (p.0 + 1) (line_said said p.1)) (λ more. lines_said (n + 1 + 1) more (drop (n + 1) lines))) pair
       ∙ sym (at_drop_more (λ ls. lines_said (n + 1) said ls) lines n line there)
 
-  pub line_read : (said more : Said) → Ok more ≡ at_line (i + 1) (line_said said line) → lines_said (n + 1 + 1) more (drop (n + 1) lines) ≡ lines_said (n + 1) said (drop n lines)
-  line_read said more e = ap (λ (r : Result Said Fault). and_then r (λ s. lines_said (n + 1 + 1) s (drop (n + 1) lines))) e ∙ said_on said
+  pub line_read : (said more : Content) → Ok more ≡ at_line (i + 1) (line_said said line) →
+      lines_said (n + 1 + 1) more (drop (n + 1) lines) ≡ lines_said (n + 1) said (drop n lines)
+  line_read said more e = ap (λ (r : Result Content Fault). and_then r (λ s. lines_said (n + 1 + 1) s (drop (n + 1) lines))) e ∙ said_on said
 
-  pub line_refused : (e : ReadError) (said : Said) (all : Result Said Fault) → Fails e (at_line (i + 1) (line_said said line)) →
-      lines_said (n + 1) said (drop n lines) ≡ all → Fails e all
-  line_refused (error.Fault fault) said all told is = ap (λ (r : Result Said Fault). and_then r (λ more. lines_said (n + 1 + 1) more (drop (n + 1) lines))) told ∙ said_on said ∙ is
+  pub line_refused : (e : ReadError) (said : Content) (all : Result Content Fault) →
+      FailsAs e (at_line (i + 1) (line_said said line)) →
+      lines_said (n + 1) said (drop n lines) ≡ all → FailsAs e all
+  line_refused (error.Fault fault) said all told is = ap (λ (r : Result Content Fault). and_then r (λ more. lines_said (n + 1 + 1) more (drop (n + 1) lines))) told ∙ said_on said ∙ is
   line_refused error.OutOfMemory said all told is = tt
 
 -- behind the last line
-pub said_all : (lines : List (List ℕ)) (n last : ℕ) (said : Said) → last ≡ length lines → n ≡ length (enumerate_from 0 lines) → at_line last (whole said) ≡ lines_said (n + 1) said (drop n lines)
+pub said_all : (lines : List (List ℕ)) (n last : ℕ) (said : Content) → last ≡ length lines →
+    n ≡ length (enumerate_from 0 lines) → at_line last (check_end said) ≡ lines_said (n + 1) said (drop n lines)
 said_all lines n last said counted end =
-    ap (λ (k : ℕ). at_line k (whole said)) (omega (arith, length-enumerate_from 0 lines))
+    ap (λ (k : ℕ). at_line k (check_end said)) (omega (arith, length-enumerate_from 0 lines))
     ∙ sym (at_drop_all (λ ls. lines_said (n + 1) said ls) lines n (omega (arith, length-enumerate_from 0 lines)))

@@ -4,5 +4,4 @@ pub mod Names
 pub mod Faults
 pub mod Lines
 pub mod Said
-pub mod Bytes
 pub mod Laws

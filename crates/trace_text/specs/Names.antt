@@ -1,32 +1,32 @@
--- How names and verbs are spelled.
-use Rattle.std.specs.Prelude.{ℕ, List, [], ◌∷◌, codes, Option}
-use Rattle.std.specs.List.{find}
+-- How names and the kinds of requests are spelled.
+use Rattle.std.specs.Prelude.{ℕ, List, [], ◌∷◌, codes, Option, find}
 use Rattle.std.specs.Str.{bytes_eq}
+use Rattle.request.specs.declared.kinds.Kind.{Kind}
+use Rattle.request.specs.declared.kinds.Kind.TheVariants.{Write, Delete, Copy, Query}
+use Rattle.request.specs.declared.kinds.QueryKind.TheVariants.{Rows, Total, Shared}
 use Rattle.trace_text.specs.declared.names.Name.{Name}
 use Rattle.trace_text.specs.declared.names.Name.TheVariants.{Users, Compartments, User, Sees, Writes, Capacity}
-use Rattle.trace_text.specs.declared.names.Verb.{Verb}
-use Rattle.trace_text.specs.declared.names.Verb.TheVariants.{Write, Delete, Copy, Query}
-use Rattle.request.specs.declared.kinds.QueryKind.TheVariants.{Rows, Total, Shared}
 
-abbrev pub spelled : Name → List ℕ
-spelled Users = codes "users"
-spelled Compartments = codes "compartments"
-spelled User = codes "user"
-spelled Sees = codes "sees"
-spelled Writes = codes "writes"
-spelled Capacity = codes "capacity"
+abbrev pub spelling : Name → List ℕ
+spelling Users = codes "users"
+spelling Compartments = codes "compartments"
+spelling User = codes "user"
+spelling Sees = codes "sees"
+spelling Writes = codes "writes"
+spelling Capacity = codes "capacity"
 
-abbrev pub verb_spelled : Verb → List ℕ
-verb_spelled Write = codes "write"
-verb_spelled Delete = codes "delete"
-verb_spelled Copy = codes "copy"
-verb_spelled (Query Rows) = codes "rows"
-verb_spelled (Query Total) = codes "total"
-verb_spelled (Query Shared) = codes "shared"
+-- the word by which a request of this kind is asked for
+abbrev pub kind_spelling : Kind → List ℕ
+kind_spelling Write = codes "write"
+kind_spelling Delete = codes "delete"
+kind_spelling Copy = codes "copy"
+kind_spelling (Query Rows) = codes "rows"
+kind_spelling (Query Total) = codes "total"
+kind_spelling (Query Shared) = codes "shared"
 
-abbrev pub verbs : List Verb
-verbs = Write ∷ Delete ∷ Copy ∷ Query Rows ∷ Query Total ∷ Query Shared ∷ []
+abbrev pub kinds : List Kind
+kinds = Write ∷ Delete ∷ Copy ∷ Query Rows ∷ Query Total ∷ Query Shared ∷ []
 
--- the verb that the word spells
-abbrev pub verb_of : List ℕ → Option Verb
-verb_of word = find (λ verb. bytes_eq word (verb_spelled verb)) verbs
+-- the kind of request that the word asks for
+abbrev pub kind_by_word : List ℕ → Option Kind
+kind_by_word word = find (λ kind. bytes_eq word (kind_spelling kind)) kinds

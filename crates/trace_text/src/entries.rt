@@ -1,6 +1,6 @@
 // What a line adds to a trace.
 ghost use Rattle.trace_text.specs.Lines.{capacity_said, count_said, and_then};
-ghost use Rattle.trace_text.specs.Said.{adds, adds_if, entry_at, entry_said};
+ghost use Rattle.trace_text.specs.Said.{entry_content, content_if, entry_at, entry_said};
 ghost use Rattle.std.specs.Prelude.{◌≡◌, Ok};
 
 use crate::fault::Reason;
@@ -25,8 +25,8 @@ pub(crate) enum Entry {
 fn count_in(line: Line, name: Name, high: usize) -> Result<u64, Reason>
     ensures { result ≡ count_said name high line.entry.bytes.now }
 {
-    line.named(0, name)?;
-    let count = line.within(1, 1, high as u64)?;
+    line.expect_name(0, name)?;
+    let count = line.number_within(1, 1, high as u64)?;
     line.ends(2)?;
     Ok(count)
 }
@@ -34,15 +34,15 @@ fn count_in(line: Line, name: Name, high: usize) -> Result<u64, Reason>
 fn capacity_in(line: Line, compartment: usize) -> Result<u64, Reason>
     ensures { result ≡ capacity_said compartment line.entry.bytes.now }
 {
-    line.named(0, Name::Capacity)?;
+    line.expect_name(0, Name::Capacity)?;
     line.next_number(1, compartment)?;
-    let capacity = line.within(2, 1, CAPACITY)?;
+    let capacity = line.number_within(2, 1, CAPACITY)?;
     line.ends(3)?;
     Ok(capacity)
 }
 
 fn entry_at(line: Line, stage: Stage) -> Result<Entry, Reason>
-    ensures { and_then result (λ e. Ok (adds e)) ≡ entry_at stage line.entry.bytes.now }
+    ensures { and_then result (λ e. Ok (entry_content e)) ≡ entry_at stage line.entry.bytes.now }
 {
     match stage {
         Stage::Users => count_in(line, Name::Users, USERS).map(Entry::Count),
@@ -55,7 +55,7 @@ fn entry_at(line: Line, stage: Stage) -> Result<Entry, Reason>
 
 // What a line adds, if it is not silent.
 pub(crate) fn entry_in(numbers: &[u64], line: Line) -> Result<Option<Entry>, Reason>
-    ensures { and_then result (λ e. Ok (adds_if e)) ≡ entry_said numbers.now line.entry.bytes.now }
+    ensures { and_then result (λ e. Ok (content_if e)) ≡ entry_said numbers.now line.entry.bytes.now }
 {
     if line.is_silent() {
         return Ok(None);

@@ -8,22 +8,29 @@ use std::alloc::AllocError;
 use std::error::Error;
 use std::fmt;
 
-// Why a line can't be read. Words count from 1.
+/// Why a line can't be read. Words count from 1.
 #[derive(Clone, Copy, PartialEq, Eq, Debug)]
 pub enum Reason {
-    // Another word should stand there.
+    /// Another word should stand there.
     Expected { name: Name },
-    // Users and capacities stand in rising order, each once.
+    /// Users and capacities are listed in rising order, each once.
     NotNext { next: usize },
-    NoVerb,
-    NoNumber { word: usize },
+    /// The line ends before this word.
+    Missing { word: usize },
+    NotANumber { word: usize },
+    /// The word is none by which a request is asked for.
+    NotARequest { word: usize },
     OutOfBounds { word: usize },
-    // The line should end before this word.
-    TooLong { word: usize },
-    // The user sees a compartment twice or one that isn't there, or doesn't see the one in which they write.
-    BadView,
-    // The text ends before the policy does.
-    Unfinished,
+    /// The line should end before this word.
+    TooMany { word: usize },
+    /// A user sees a compartment that the policy doesn't have.
+    NoCompartment { compartment: u64 },
+    SeenTwice { user: usize, compartment: u64 },
+    SeesNothing { user: usize },
+    /// The user doesn't see the compartment in which they write.
+    WritesUnseen { user: usize, compartment: u64 },
+    /// The text ends before the policy does.
+    Truncated,
 }
 
 impl fmt::Display for Reason {
@@ -33,17 +40,30 @@ impl fmt::Display for Reason {
         match self {
             Reason::Expected { name } => write!(f, "expected {name}"),
             Reason::NotNext { next } => write!(f, "expected number {next}"),
-            Reason::NoVerb => write!(f, "no such request"),
-            Reason::NoNumber { word } => write!(f, "word {word} is no number"),
+            Reason::Missing { word } => write!(f, "word {word} is missing"),
+            Reason::NotANumber { word } => write!(f, "word {word} is not a number"),
+            Reason::NotARequest { word } => write!(f, "word {word} is not a request"),
             Reason::OutOfBounds { word } => write!(f, "word {word} is out of bounds"),
-            Reason::TooLong { word } => write!(f, "word {word} is too many"),
-            Reason::BadView => write!(f, "no such view"),
-            Reason::Unfinished => write!(f, "the policy is cut short"),
+            Reason::TooMany { word } => write!(f, "word {word} is too many"),
+            Reason::NoCompartment { compartment } => {
+                write!(f, "compartment {compartment} is not there")
+            }
+            Reason::SeenTwice { user, compartment } => {
+                write!(f, "user {user} sees compartment {compartment} twice")
+            }
+            Reason::SeesNothing { user } => write!(f, "user {user} sees nothing"),
+            Reason::WritesUnseen { user, compartment } => {
+                write!(
+                    f,
+                    "user {user} does not see compartment {compartment}, where they write"
+                )
+            }
+            Reason::Truncated => write!(f, "the policy is truncated"),
         }
     }
 }
 
-// The line that can't be read, counted from 1, and why.
+/// The line that can't be read, counted from 1, and why.
 #[derive(Clone, Copy, PartialEq, Eq, Debug)]
 pub struct Fault {
     pub line: usize,
@@ -60,8 +80,7 @@ impl fmt::Display for Fault {
     }
 }
 
-// Why a text is not read.
-// `trace_items::Stop` is such a type too; one generic over the error would have two `From`s that overlap, of any error and of `AllocError`.
+/// Why a text is not read.
 #[derive(Clone, Copy, PartialEq, Eq, Debug)]
 pub enum ReadError {
     Fault(Fault),

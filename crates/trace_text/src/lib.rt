@@ -1,52 +1,55 @@
-// Traces as text: what a text says is read into a trace, and a trace is written in bytes.
+//! Traces as text: what a text says is read line by line.
 #![tactic(auto)]
 
-ghost use Rattle.trace_text.specs.Said.{Tells, said_of, trace_in};
-ghost use Rattle.trace_text.specs.Bytes.{trace_bytes};
-ghost use Rattle.std.specs.Prelude.{◌≡◌, IfOk};
+ghost use Rattle.trace_text.specs.Said.{ReadsAs, looks_like_text, content_of, trace_in};
+ghost use Rattle.std.specs.Prelude.{◌≡◌};
 
 mod entries;
 mod fault;
-mod laws;
+pub mod laws;
 mod line;
 mod names;
+mod opening;
 mod reading;
 mod requests;
 mod stages;
+#[cfg(test)]
+mod texts;
 mod users;
-mod writing;
 
 pub use fault::{Fault, ReadError, Reason};
-pub use laws::reads_back_stands;
+use line::Line;
 pub use names::Name;
+use opening::{first_line_with_words, without_mark};
 use request::Request;
-use std::alloc::{AllocError, Global};
-use writing::push_trace;
+use std::alloc::Global;
 
-// The numbers of a policy, and the requests behind it.
+/// What a text says: the numbers of a policy, and the requests behind it.
 #[derive(Drop)]
 pub struct Trace {
     pub numbers: Vec<u64>,
     pub requests: Vec<Request>,
 }
 
-// What the text says, or the first line that can't be read, and why.
+/// What the text says, or the first line that can't be read, and why. The text is only read: where memory runs out,
+/// nothing is left behind.
 pub fn read(heap: Global, text: &[u8]) -> Result<Trace, ReadError>
-    ensures { Tells said_of result (trace_in text.now) }
+    ensures { ReadsAs content_of result (trace_in text.now) }
 {
     let mut trace = Trace {
         numbers: Vec::new(heap),
         requests: Vec::new(heap),
     };
-    trace.read_lines(text)?;
+    trace.read_lines(without_mark(text))?;
     Ok(trace)
 }
 
-// The bytes of a trace.
-pub fn write(heap: Global, trace: &Trace) -> Result<Vec<u8>, AllocError>
-    ensures { IfOk result (λ v. v.items ≡ trace_bytes (said_of trace.now)) }
+/// Whether the first word is `users`, past a byte order mark, blank lines and comments: so begins a trace as text.
+pub fn looks_like_text(bytes: &[u8]) -> bool
+    ensures { result ≡ looks_like_text bytes.now }
 {
-    let mut bytes = Vec::new(heap);
-    push_trace(&mut bytes, trace)?;
-    Ok(bytes)
+    let Some(bytes) = first_line_with_words(without_mark(bytes)) else {
+        return false;
+    };
+    Line { bytes }.is_named(0, Name::Users)
 }

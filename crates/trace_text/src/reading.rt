@@ -1,6 +1,6 @@
 // Reading a text line by line.
 ghost use Rattle.trace_text.specs.Lines.{and_then};
-ghost use Rattle.trace_text.specs.Said.{Tells, added, adds, at_line, line_said, lines_said, said_of, whole};
+ghost use Rattle.trace_text.specs.Said.{ReadsAs, join, entry_content, at_line, line_said, lines_said, content_of, check_end};
 ghost use Rattle.trace_text.specs.Words.{lines};
 ghost use Rattle.std.specs.Prelude.{◌≡◌, length, Ok, OnOk};
 
@@ -23,7 +23,7 @@ fn line_count(text: &[u8]) -> usize
 impl Trace {
     // Adds what a user's line says: behind the view lies 0, up to a place for each compartment.
     fn add_contract(&mut self, contract: Contract) -> Result<(), AllocError>
-        ensures { OnOk result (said_of self.new ≡ added (said_of self.old) (adds (Entry.User contract))) }
+        ensures { OnOk result (content_of self.new ≡ join (content_of self.old) (entry_content (Entry.User contract))) }
     {
         let view = contract.view();
         self.numbers.push(view.len() as u64)?;
@@ -35,7 +35,7 @@ impl Trace {
 
     // Adds what a line says.
     fn add(&mut self, entry: Entry) -> Result<(), AllocError>
-        ensures { OnOk result (said_of self.new ≡ added (said_of self.old) (adds entry)) }
+        ensures { OnOk result (content_of self.new ≡ join (content_of self.old) (entry_content entry)) }
     {
         match entry {
             Entry::Count(number) => self.numbers.push(number)?,
@@ -47,7 +47,8 @@ impl Trace {
 
     // Adds what the line of this number says, or says why it can't be read.
     fn read_line(&mut self, number: usize, line: Line) -> Result<(), ReadError>
-        ensures { Tells (λ _. said_of self.new) result (at_line number (line_said (said_of self.old) line.entry.bytes.now)) }
+        ensures { ReadsAs (λ _. content_of self.new) result
+            (at_line number (line_said (content_of self.old) line.entry.bytes.now)) }
     {
         let entry = entry_in(self.numbers.as_slice(), line).map_err(|reason| Fault {
             line: number,
@@ -60,14 +61,14 @@ impl Trace {
     }
 
     // Whether the text may end behind the line of this number.
-    fn whole(&self, number: usize) -> Result<(), Fault>
-        ensures { and_then result (λ _. Ok (said_of self.now)) ≡ at_line number (whole (said_of self.now)) }
+    fn check_end(&self, number: usize) -> Result<(), Fault>
+        ensures { and_then result (λ _. Ok (content_of self.now)) ≡ at_line number (check_end (content_of self.now)) }
     {
         match stage_of(self.numbers.as_slice()) {
             Stage::Users | Stage::Compartments | Stage::User { .. } | Stage::Capacity { .. } => {
                 Err(Fault {
                     line: number,
-                    reason: Reason::Unfinished,
+                    reason: Reason::Truncated,
                 })
             }
             Stage::Requests => Ok(()),
@@ -76,11 +77,11 @@ impl Trace {
 
     // Adds what the lines of a text say, or says which is the first that can't be read.
     pub(crate) fn read_lines(&mut self, text: &[u8]) -> Result<(), ReadError>
-        ensures { Tells (λ _. said_of self.new) result (lines_said 1 (said_of self.old) (lines text.now)) }
+        ensures { ReadsAs (λ _. content_of self.new) result (lines_said 1 (content_of self.old) (lines text.now)) }
     {
         for (i, bytes) in text.split(|byte| *byte == b'\n').enumerate() {
             self.read_line(i + 1, Line { bytes })?;
         }
-        Ok(self.whole(line_count(text))?)
+        Ok(self.check_end(line_count(text))?)
     }
 }

@@ -5,7 +5,7 @@ ghost use Rattle.std.specs.Prelude.{◌≡◌, ◌≤◌};
 use base::USERS;
 use policy::{COUNTS, USER};
 
-// What comes next. The order of a text's lines is its format, and the numbers so far say where in it a line stands: so it is told anew, and no step is kept.
+// What comes next: the numbers so far say where in the policy a line stands.
 #[derive(Clone, Copy)]
 pub(crate) enum Stage {
     Users,
@@ -15,9 +15,8 @@ pub(crate) enum Stage {
     Requests,
 }
 
-// How many numbers of a policy are a byte each.
-// A rule of its own: `wire` looks at the count of compartments too, and reads no wide numbers if either count is out of bounds.
-pub(crate) fn single_numbers(numbers: &[u64]) -> usize
+// How many numbers come before the capacities.
+fn single_numbers(numbers: &[u64]) -> usize
     ensures { result ≡ single_numbers numbers.now }
 {
     // A missing number counts as 0.

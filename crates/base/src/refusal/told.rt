@@ -4,10 +4,11 @@ ghost use Rattle.base.specs.Refusals.{number_of, place_of, refusal_line};
 
 use super::Refusal;
 use crate::USERS;
+use std::error::Error;
 use std::fmt;
 
 impl Refusal {
-    // By a match: two cases share 4, and cases with fields have no numbers of their own.
+    /// The number that is told; two cases share 4.
     pub fn number(self) -> u64
         ensures { result ≡ number_of self }
     {
@@ -23,7 +24,8 @@ impl Refusal {
         }
     }
 
-    // A compartment that may not be copied comes behind all users. Wider than its number, so that the sum fits whatever it is.
+    /// The place that is told. A compartment whose rows may not be copied comes after the 32 users; the sum is wider
+    /// than the compartment, so that it fits whatever that is.
     pub fn place(self) -> u128
         ensures { result ≡ place_of self }
     {
@@ -40,6 +42,8 @@ impl Refusal {
         }
     }
 }
+
+impl Error for Refusal {}
 
 impl fmt::Display for Refusal {
     ghost output = { λ r. Some (refusal_line r) };

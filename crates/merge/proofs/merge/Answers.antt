@@ -1,15 +1,15 @@
--- Each turn takes one step of the definition.
-use Rattle.std.proofs.Common.{sym, ◌∙◌, arith}
-use Rattle.merge.proofs.Turns.{stepped_left, merging_more, merging_none, merging_full}
+-- Each turn puts the last row that waits.
+use Rattle.std.proofs.Common.{sym, ◌∙◌}
+use Rattle.merge.proofs.Merges.{merging_last, merging_none}
 use Rattle.merge.proofs.merge.Goals as goal
 
-pub loop-left-preserved : goal.loop-left-preserved
-loop-left-preserved c =
-    rw (c.turn.ensures.next, c.turn.ensures.after)
-    (stepped_left _ _ c.loop-left.invariant.0, sym (merging_more _ _ (omega arith) (omega arith)) ∙ c.loop-left.invariant.1)
+pub loop-row-preserved : goal.loop-row-preserved
+loop-row-preserved c = record {
+  places = c.put.ensures.places;
+  room = c.put.ensures.room;
+  same = rw (c.put.ensures.next, c.put.ensures.after)
+      (sym (merging_last _ _ _ _ _ c.in-Some.ensures.cases.0) ∙ c.loop-row.invariant.same);
+}
 
-pub returns-else-left-gt0 : goal.returns-else-left-gt0
-returns-else-left-gt0 c = sym (merging_full _ _ _ (omega arith)) ∙ c.loop-left.invariant.1
-
-pub returns-after-loop-left : goal.returns-after-loop-left
-returns-after-loop-left c = sym (merging_none _ _ _ (omega arith)) ∙ c.loop-left.invariant.1
+pub returns : goal.returns
+returns c = sym (merging_none _ _ _ c.in_default.ensures.cases) ∙ (c.loop-row.invariant.same ∙ rw c.pairs-waiting.ensures)

@@ -5,7 +5,7 @@ ghost use Rattle.policy.specs.Views.{distinct_below, valid};
 use super::Contract;
 
 impl Contract {
-    // Nothing twice in the view, nothing that isn't there, and the compartment written in among them.
+    /// Whether the view has no compartment twice, none that is not there, and the one written in.
     pub fn is_valid(&self, compartments: u64) -> bool
         ensures { result ≡ valid compartments self.now }
     {

@@ -5,31 +5,24 @@ ghost use Rattle.policy.specs.Read.{Says, Say};
 ghost use Rattle.policy.specs.Views.{view_of};
 
 use super::Contract;
-use crate::ArrayList;
 use crate::numbers::Numbers;
-use crate::sizes::{USER, USERS, user_at};
+use crate::sizes::{USER, user_at};
+use base::USERS;
 use std::array::from_fn;
 
 impl Contract {
-    // Whoever is not there sees nothing. What lies behind a view is not looked at.
+    // Whoever is not there sees nothing. What lies after a view is not looked at.
     fn of_user(numbers: &Numbers, user: usize) -> Contract
         ensures there { user < users_in numbers.now.all.now → Says numbers.now.all.now user result }
         ensures absent { users_in numbers.now.all.now ≤ user → (view_of result ≡ []) × (result.writes ≡ 0) }
     {
-        if user >= numbers.users() {
-            return Contract {
-                view: ArrayList::new(0),
-                writes: 0,
-            };
+        if user >= numbers.users {
+            return Contract::of(&[], 0);
         }
-        // By place: judged numbers are there, and a pattern over them would need an arm for fewer.
         let at = user_at(user);
         let all = numbers.all;
         let seen = all[at] as usize;
-        Contract {
-            view: ArrayList::of(&all[at + 1..at + 1 + seen], 0).unwrap(),
-            writes: all[at + USER - 1],
-        }
+        Contract::of(&all[at + 1..at + 1 + seen], all[at + USER - 1])
     }
 
     // The contracts of all users.

@@ -2,38 +2,55 @@
 ghost use Rattle.policy_text.specs.Forms.{graph};
 
 use super::Form;
-use std::alloc::AllocError;
-use std::fmt::Write;
+use output::{Output, Piece};
+use std::io::{self, Write};
 
 pub(crate) struct Graph;
 
 impl Form for Graph {
     ghost shape = { graph };
 
-    fn push_user(text: &mut String, user: usize, writes: u64) -> Result<(), AllocError> {
-        writeln!(
-            text,
-            "    \"user {user}\";\n    \"user {user}\" -> \"compartment {writes}\";"
-        )
+    fn begin<W: Write>(out: &mut Output<W>) -> io::Result<()> {
+        out.write(&[Piece::Text("digraph policy {\n")])
     }
 
-    fn push_seen(text: &mut String, user: usize, compartment: u64) -> Result<(), AllocError> {
-        writeln!(
-            text,
-            "    \"compartment {compartment}\" -> \"user {user}\" [style=dashed];"
-        )
+    fn write_user<W: Write>(out: &mut Output<W>, user: usize, writes: u64) -> io::Result<()> {
+        let user = Piece::Number(user as u128);
+        out.write(&[
+            Piece::Text("    \"user "),
+            user,
+            Piece::Text("\";\n    \"user "),
+            user,
+            Piece::Text("\" -> \"compartment "),
+            Piece::Number(writes as u128),
+            Piece::Text("\";\n"),
+        ])
     }
 
-    fn end_user(_text: &mut String, _writes: u64) -> Result<(), AllocError> {
-        Ok(())
+    fn write_seen<W: Write>(out: &mut Output<W>, user: usize, compartment: u64) -> io::Result<()> {
+        out.write(&[
+            Piece::Text("    \"compartment "),
+            Piece::Number(compartment as u128),
+            Piece::Text("\" -> \"user "),
+            Piece::Number(user as u128),
+            Piece::Text("\" [style=dashed];\n"),
+        ])
     }
 
-    fn push_compartment(
-        text: &mut String,
+    fn end_user<W: Write>(out: &mut Output<W>, _writes: u64) -> io::Result<()> {
+        out.write(&[])
+    }
+
+    fn write_compartment<W: Write>(
+        out: &mut Output<W>,
         compartment: usize,
-        _capacity: u64,
-    ) -> Result<(), AllocError> {
-        writeln!(text, "    \"compartment {compartment}\" [shape=box];")
+        _capacity: usize,
+    ) -> io::Result<()> {
+        out.write(&[
+            Piece::Text("    \"compartment "),
+            Piece::Number(compartment as u128),
+            Piece::Text("\" [shape=box];\n"),
+        ])
     }
 
     // Every compartment flows to itself, and the graph leaves that out.
@@ -41,14 +58,21 @@ impl Form for Graph {
         from != to
     }
 
-    fn push_flow(text: &mut String, from: usize, to: usize) -> Result<(), AllocError> {
-        writeln!(
-            text,
-            "    \"compartment {from}\" -> \"compartment {to}\" [color=blue];"
-        )
+    fn write_flow<W: Write>(out: &mut Output<W>, from: usize, to: usize) -> io::Result<()> {
+        out.write(&[
+            Piece::Text("    \"compartment "),
+            Piece::Number(from as u128),
+            Piece::Text("\" -> \"compartment "),
+            Piece::Number(to as u128),
+            Piece::Text("\" [color=blue];\n"),
+        ])
     }
 
-    fn end_compartment(_text: &mut String) -> Result<(), AllocError> {
-        Ok(())
+    fn end_compartment<W: Write>(out: &mut Output<W>) -> io::Result<()> {
+        out.write(&[])
+    }
+
+    fn end<W: Write>(out: &mut Output<W>) -> io::Result<()> {
+        out.write(&[Piece::Text("}\n")])
     }
 }

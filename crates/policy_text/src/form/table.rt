@@ -2,41 +2,58 @@
 ghost use Rattle.policy_text.specs.Forms.{table};
 
 use super::Form;
-use std::alloc::AllocError;
-use std::fmt::Write;
+use output::{Output, Piece};
+use std::io::{self, Write};
 
 pub(crate) struct Table;
 
 impl Form for Table {
     ghost shape = { table };
 
-    fn push_user(text: &mut String, user: usize, _writes: u64) -> Result<(), AllocError> {
-        write!(text, "user {user} sees")
+    fn begin<W: Write>(out: &mut Output<W>) -> io::Result<()> {
+        out.write(&[])
     }
 
-    fn push_seen(text: &mut String, _user: usize, compartment: u64) -> Result<(), AllocError> {
-        write!(text, " {compartment}")
+    fn write_user<W: Write>(out: &mut Output<W>, user: usize, _writes: u64) -> io::Result<()> {
+        out.write(&[
+            Piece::Text("user "),
+            Piece::Number(user as u128),
+            Piece::Text(" sees"),
+        ])
     }
 
-    fn end_user(text: &mut String, writes: u64) -> Result<(), AllocError> {
-        writeln!(text, ", writes in {writes}")
+    fn write_seen<W: Write>(out: &mut Output<W>, _user: usize, compartment: u64) -> io::Result<()> {
+        out.write(&[Piece::Text(" "), Piece::Number(compartment as u128)])
     }
 
-    fn push_compartment(
-        text: &mut String,
+    fn end_user<W: Write>(out: &mut Output<W>, writes: u64) -> io::Result<()> {
+        out.write(&[
+            Piece::Text(", writes in "),
+            Piece::Number(writes as u128),
+            Piece::Text("\n"),
+        ])
+    }
+
+    fn write_compartment<W: Write>(
+        out: &mut Output<W>,
         compartment: usize,
-        capacity: u64,
-    ) -> Result<(), AllocError> {
+        capacity: usize,
+    ) -> io::Result<()> {
+        let compartment = Piece::Number(compartment as u128);
         if capacity == 1 {
-            write!(
-                text,
-                "compartment {compartment} has room for 1 row, which may flow to"
-            )
+            let room = Piece::Text(" has room for 1 row, which may flow to");
+            out.write(&[Piece::Text("compartment "), compartment, room])
         } else {
-            write!(
-                text,
-                "compartment {compartment} has room for {capacity} rows, which may flow to"
-            )
+            let room = Piece::Text(" has room for ");
+            let capacity = Piece::Number(capacity as u128);
+            let rows = Piece::Text(" rows, which may flow to");
+            out.write(&[
+                Piece::Text("compartment "),
+                compartment,
+                room,
+                capacity,
+                rows,
+            ])
         }
     }
 
@@ -44,11 +61,15 @@ impl Form for Table {
         true
     }
 
-    fn push_flow(text: &mut String, _from: usize, to: usize) -> Result<(), AllocError> {
-        write!(text, " {to}")
+    fn write_flow<W: Write>(out: &mut Output<W>, _from: usize, to: usize) -> io::Result<()> {
+        out.write(&[Piece::Text(" "), Piece::Number(to as u128)])
     }
 
-    fn end_compartment(text: &mut String) -> Result<(), AllocError> {
-        writeln!(text)
+    fn end_compartment<W: Write>(out: &mut Output<W>) -> io::Result<()> {
+        out.write(&[Piece::Text("\n")])
+    }
+
+    fn end<W: Write>(out: &mut Output<W>) -> io::Result<()> {
+        out.write(&[])
     }
 }

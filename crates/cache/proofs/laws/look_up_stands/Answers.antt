@@ -1,6 +1,6 @@
--- What is found stands there.
-use Rattle.cache.proofs.Theorems.{found_stands, empty_finds_nothing}
+-- The theorems that the contract names.
+use Rattle.cache.proofs.Theorems.{found_is_there, empty_finds_nothing}
 use Rattle.cache.proofs.laws.look_up_stands.Goals as goal
 
 pub returns : goal.returns
-returns c = record { found = found_stands; empty = empty_finds_nothing }
+returns c = record { found = found_is_there; empty = empty_finds_nothing }

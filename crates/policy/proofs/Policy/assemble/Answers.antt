@@ -23,12 +23,12 @@ invariant_of-result c =
     record {
       contracts_long = stand.long;
       places_long = omega arith;
-      few_users = rw c.users-users.ensures fit.users;
-      few_compartments = rw c.compartments.ensures fit.compartments;
-      valid = rw (c.users-users.ensures, c.compartments.ensures) stand.valid;
-      bounded = rw (c.compartments.ensures, read) within;
-      placed = rw (c.compartments.ensures, read) starts;
-      behind = rw (c.compartments.ensures, read) end;
+      few_users = rw c.args.numbers.now.users_are fit.users;
+      few_compartments = rw c.args.numbers.now.compartments_are fit.compartments;
+      valid = rw (c.args.numbers.now.users_are, c.args.numbers.now.compartments_are) stand.valid;
+      bounded = rw (c.args.numbers.now.compartments_are, read) within;
+      placed = rw (c.args.numbers.now.compartments_are, read) starts;
+      behind = rw (c.args.numbers.now.compartments_are, read) end;
       near = rw end (end_within _ few within);
       flowing = c.flows-flows.ensures;
     }
@@ -41,8 +41,8 @@ returns c =
     let long = capacities_taken xs fit in
     let read = rw (caps, long) at c.place-caches.ensures.capacities in
     record {
-      users = c.users-users.ensures;
-      compartments = c.compartments.ensures;
-      contracts = rw c.users-users.ensures c.requires.say;
-      capacities = rw c.compartments.ensures read;
+      users = c.args.numbers.now.users_are;
+      compartments = c.args.numbers.now.compartments_are;
+      contracts = rw c.args.numbers.now.users_are c.requires.say;
+      capacities = rw c.args.numbers.now.compartments_are read;
     }

@@ -1,5 +1,5 @@
--- The law is proved in Ends.
-use Rattle.trace_bytes.proofs.Ends.{refused_at_place}
+-- The law is proved in Standing.
+use Rattle.trace_bytes.proofs.Standing.{refused_at_place}
 use Rattle.trace_bytes.proofs.laws.refused_at_place_stands.Goals as goal
 
 pub returns : goal.returns

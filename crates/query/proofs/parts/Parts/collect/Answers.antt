@@ -1,7 +1,7 @@
--- A turn writes one count and the rows of one part.
+-- Each iteration writes one count and the rows of one part.
 use Rattle.std.proofs.Common.{map, length, take, refl, ap, arith}
 use Rattle.std.proofs.lemmas.List.{length-map}
-use Rattle.query.specs.Numbers.{count_in}
+use Rattle.query.specs.AnswerRows.{count_in}
 use Rattle.query.proofs.Steps.{lengths_more, heads_turn, body_turn, at_turn, count_turn}
 use Rattle.query.proofs.parts.Parts.collect.Goals as goal
 

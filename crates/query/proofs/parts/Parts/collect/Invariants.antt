@@ -1,6 +1,6 @@
 -- The first parts are written, and the room that is left holds the others.
 use Rattle.std.proofs.Common.{◌≡◌, ◌+◌, ◌*◌, ◌≤◌, ◌++◌, map, length, take, drop}
-use Rattle.query.specs.Numbers.{lengths, counts, cut, count_in}
+use Rattle.query.specs.AnswerRows.{lengths, counts, range_parts, count_in}
 use Rattle.query.proofs.parts.Parts.collect.Given as goal
 
 abbrev pub invariant-loop-i : goal.invariant-loop-i
@@ -9,8 +9,8 @@ invariant-loop-i l =
     let done = take l.i ps in
     record {
       heads : l.header ≡ counts l.range done ++ drop l.i l.initial.header;
-      rows : l.body ≡ cut l.range done ++ drop l.at l.initial.body;
-      at : l.at ≡ length (cut l.range done);
+      rows : l.body ≡ range_parts l.range done ++ drop l.at l.initial.body;
+      at : l.at ≡ length (range_parts l.range done);
       examined : l.at ≡ 2 * count_in l.range done;
       room : l.at + lengths (drop l.i ps) ≤ length l.initial.body;
     }

@@ -1,7 +1,7 @@
--- A turn takes the next part off the room.
+-- Each iteration takes the next part off the room.
 use Rattle.std.proofs.Common.{ap, arith}
 use Rattle.std.proofs.lemmas.Bool.Decides.{nat_tests}
-use Rattle.query.specs.Numbers.{lengths}
+use Rattle.query.specs.AnswerRows.{lengths}
 use Rattle.query.proofs.Steps.{lengths_more}
 use Rattle.query.proofs.parts.Parts.has_room.Goals as goal
 

@@ -1,6 +1,6 @@
 -- What is left and what is still to come.
 use Rattle.std.proofs.Common.{◌≡◌, ◌+◌, map, drop}
-use Rattle.query.specs.Numbers.{lengths}
+use Rattle.query.specs.AnswerRows.{lengths}
 use Rattle.query.proofs.parts.Parts.has_room.Given as goal
 
 abbrev pub invariant-loop-part : goal.invariant-loop-part

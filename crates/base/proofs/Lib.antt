@@ -1,0 +1,2 @@
+-- Lemmas on lists in arrays.
+mod Fills

@@ -1,8 +1,0 @@
--- The first parts are lent.
-use Rattle.std.proofs.Common.{◌≡◌, map, take}
-use Rattle.memory_query.specs.Asked.{parts_in}
-use Rattle.memory_query.proofs.held.Held.lend.Given as goal
-
-abbrev pub invariant-loop-compartment : goal.invariant-loop-compartment
-invariant-loop-compartment l =
-    map (λ x. x.now) l.parts.items ≡ parts_in l.self.policy.now l.self.memory.now (take l.compartment-index l.compartment-items)

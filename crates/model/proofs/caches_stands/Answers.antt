@@ -1,6 +1,0 @@
--- The theorem that the contract names.
-use Rattle.model.proofs.Orderly.{caches}
-use Rattle.model.proofs.caches_stands.Goals as goal
-
-pub returns : goal.returns
-returns c = caches

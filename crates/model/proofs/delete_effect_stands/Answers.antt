@@ -1,6 +1,0 @@
--- The theorem that the contract names.
-use Rattle.model.proofs.Changes.{delete_effect}
-use Rattle.model.proofs.delete_effect_stands.Goals as goal
-
-pub returns : goal.returns
-returns c = delete_effect

@@ -1,6 +1,0 @@
--- The theorem that the contract names.
-use Rattle.model.proofs.Example.{worked}
-use Rattle.model.proofs.example_stands.Goals as goal
-
-pub returns : goal.returns
-returns c = worked

@@ -1,6 +1,0 @@
--- The theorem that the contract names.
-use Rattle.model.proofs.Interference.{noninterference}
-use Rattle.model.proofs.noninterference_stands.Goals as goal
-
-pub returns : goal.returns
-returns c = noninterference

@@ -1,6 +1,0 @@
--- The theorem that the contract names.
-use Rattle.model.proofs.Answering.{right_answers}
-use Rattle.model.proofs.right_answers_stands.Goals as goal
-
-pub returns : goal.returns
-returns c = right_answers

@@ -1,6 +1,0 @@
--- The theorem that the contract names.
-use Rattle.model.proofs.Interference.{two_traces}
-use Rattle.model.proofs.two_traces_stands.Goals as goal
-
-pub returns : goal.returns
-returns c = two_traces

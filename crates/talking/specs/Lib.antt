@@ -1,4 +1,0 @@
--- What the contracts of this crate cite.
-pub mod Frame
-pub mod Stores
-pub mod Talks

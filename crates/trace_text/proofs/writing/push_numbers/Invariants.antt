@@ -1,7 +1,0 @@
--- What was written and what is still to be written are the whole.
-use Rattle.std.proofs.Common.{◌≡◌, ◌++◌, drop, vec_items}
-use Rattle.trace_bytes.specs.Written.{written}
-use Rattle.trace_text.proofs.writing.push_numbers.Given as goal
-
-abbrev pub invariant-loop-number : goal.invariant-loop-number
-invariant-loop-number l = vec_items l.bytes ++ written l.width (drop l.number-index l.numbers) ≡ vec_items l.initial.bytes ++ written l.width l.numbers

@@ -1,5 +1,5 @@
 -- What the calls do to a part that holds a version and rows.
-use Rattle.std.proofs.Common.{◌≡◌, ℕ, suc, ◌+◌, ◌*◌, ◌<◌, ◌≤◌, Bool, true, false, cond, ltb, leb, List, ◌∷◌, ◌++◌, length, get_or, take, drop, replicate, is_ok, Some, None, Ok, Err, Option, Result, sym, refl, ap, ◌∙◌, inl, inr, add-one, arith}
+use Rattle.std.proofs.Common.{◌≡◌, ℕ, suc, ◌+◌, ◌*◌, ◌/◌, ◌<◌, ◌≤◌, Bool, true, false, cond, ltb, leb, List, ◌∷◌, ◌++◌, length, get_or, take, drop, replicate, is_ok, Some, None, Ok, Err, Option, Result, sym, refl, ap, ◌∙◌, inl, inr, add-one, arith}
 use Rattle.std.proofs.lemmas.Bool.Decides.{nat_tests}
 use Rattle.std.proofs.lemmas.List.{length-replicate}
 use Rattle.std.proofs.lemmas.Bool.{cases_Bool, true≢false, false≢true, ltb-true, leb-true, lt-ltb, le-leb, cond-true}
@@ -19,9 +19,9 @@ use Rattle.base.specs.declared.refusal.Refusal.{Refusal}
 use Rattle.base.specs.declared.refusal.Refusal.TheVariants.{LastVersion}
 use Rattle.compartment.specs.declared.copying.Copying.{Copying}
 use Rattle.compartment.specs.ChangeResult.{ChangeResult, refused_change, change_unless_refused}
-use Rattle.compartment.specs.Changes.{RowsChange, put_change, delete_change, copy_change, no_change}
-use Rattle.compartment.specs.Parts.{limit, capacity, in_bounds, count_told, with_heading, counts_of, change_rows, copy_part, rows_to_copy}
-use Rattle.compartment.specs.Holding.{FitsU32s, PartHolds, BothHold, version_check, EmptyHolds, CheckCounts, RefusedChangeLeaves, WriteTells, WriteHolds, DeleteTells, DeleteHolds, CopyTells, CopyHolds, RefusedCopyLeaves, RaiseTells, RaiseHolds}
+use Rattle.compartment.specs.Changes.{RowsChange, put_change, delete_change, copy_change, refill_change, no_change}
+use Rattle.compartment.specs.Parts.{limit, capacity, in_bounds, count_told, rows_part, with_heading, counts_of, change_rows, copy_part, rows_to_copy}
+use Rattle.compartment.specs.Holding.{FitsU32s, PartHolds, BothHold, version_check, EmptyHolds, CheckCounts, RowsAreFlat, RefusedChangeLeaves, WriteTells, WriteHolds, DeleteTells, DeleteHolds, CopyTells, CopyHolds, RefusedCopyLeaves, RefillTells, RefillLeaves, RefillHolds, RefilledHolds, RaiseTells, RaiseHolds}
 
 pub empty_holds : EmptyHolds
 empty_holds c =
@@ -64,6 +64,11 @@ module _ (c version : ℕ) (rows : List Row) (part : List ℕ) (h : PartHolds c 
   counts : ((start : ℕ) → count_told start part ≡ Ok (length rows)) × (get_or part 0 0 ≡ version)
   counts = (λ start. cond-true (in_bounds part) _ _ sound_is ∙ ap (λ n. Ok n) (rw h.is refl), rw h.is refl)
 
+  flat_rows : rows_part (length rows) part ≡ flat rows
+  flat_rows =
+      cond-true (leb (2 + 2 * length rows) (length part)) _ _ (le-leb (2 + 2 * length rows) (length part) (omega (arith, h.long, h.fits)))
+      ∙ rw h.is (take_flat rows h.rest)
+
   -- a part with other rows in front, one version on
   refilled : (new : List Row) → SortedByKey new → AllByRecursion FitsU32s new → length new ≤ c → suc version < limit
       → PartHolds c (suc version) new (suc version ∷ length new ∷ in_front new (flat rows ++ h.rest))
@@ -79,11 +84,15 @@ module _ (c version : ℕ) (rows : List Row) (part : List ℕ) (h : PartHolds c 
         bounded = b;
       }
 
-  -- what a change does that leads to these rows, unless it is refused
-  module _ (compartment : ℕ) (change : RowsChange) (can : Bool) (new : List Row)
-      (count : change.count (length rows) (flat rows ++ h.rest) ≡ cond can (Some (length new)) None) where
+  -- the part after a change that leads to so many rows
+  abbrev changed : RowsChange → ℕ → List ℕ
+  changed change n = suc version ∷ n ∷ change.rows (length rows) (flat rows ++ h.rest)
+
+  -- what the change does, unless it is refused
+  module _ (compartment : ℕ) (change : RowsChange) (can : Bool) (n : ℕ)
+      (count : change.count (length rows) (flat rows ++ h.rest) ≡ cond can (Some n) None) where
     change_is : change_rows compartment change (length rows) part
-        ≡ outcome can (ltb (suc version) limit) (change.refusal c) (LastVersion compartment) (suc version ∷ length new ∷ change.rows (length rows) (flat rows ++ h.rest)) part
+        ≡ outcome can (ltb (suc version) limit) (change.refusal c) (LastVersion compartment) (changed change n) part
     change_is =
         let room : capacity part ≡ c = omega (arith, h.long) in
         elim (cases_Bool can) [
@@ -94,13 +103,22 @@ module _ (c version : ℕ) (rows : List Row) (part : List ℕ) (h : PartHolds c 
     change_tells : (change_rows compartment change (length rows) part).told ≡ cond can (version_check compartment version) (Err (change.refusal c))
     change_tells = ap (λ (r : ChangeResult). r.told) change_is ∙ outcome_told can (ltb (suc version) limit) _ _ _ part
 
+    change_done : (change_rows compartment change (length rows) part).told ≡ Ok tt
+        → (can ≡ true) × (ltb (suc version) limit ≡ true) × ((change_rows compartment change (length rows) part).memory ≡ changed change n)
+    change_done e =
+        let d = outcome_done can (ltb (suc version) limit) (change.refusal c) (LastVersion compartment) (changed change n) part
+        (ap (λ (r : ChangeResult). r.told) (sym change_is) ∙ e) in
+        (d.0, d.1, ap (λ (r : ChangeResult). r.memory) change_is ∙ d.2)
+
+  -- and one that leads to these rows
+  module _ (compartment : ℕ) (change : RowsChange) (can : Bool) (new : List Row)
+      (count : change.count (length rows) (flat rows ++ h.rest) ≡ cond can (Some (length new)) None) where
     change_holds : (can ≡ true → change.rows (length rows) (flat rows ++ h.rest) ≡ in_front new (flat rows ++ h.rest)) → (can ≡ true → length new ≤ c)
         → SortedByKey new → AllByRecursion FitsU32s new → (change_rows compartment change (length rows) part).told ≡ Ok tt
         → PartHolds c (suc version) new (change_rows compartment change (length rows) part).memory
     change_holds are few u a e =
-        let d = outcome_done can (ltb (suc version) limit) (change.refusal c) (LastVersion compartment) (suc version ∷ length new ∷ change.rows (length rows) (flat rows ++ h.rest)) part
-        (ap (λ (r : ChangeResult). r.told) (sym change_is) ∙ e) in
-        rw (change_is, d.2, are d.0) (refilled new u a (few d.0) (ltb-true (suc version) limit d.1))
+        let d = change_done compartment change can (length new) count e in
+        rw (d.2, are d.0) (refilled new u a (few d.0) (ltb-true (suc version) limit d.1))
 
   same_fit : (new : List Row) → fits new (flat rows ++ h.rest) ≡ leb (length new) c
   same_fit new = let len = behind in grind (arith, nat_tests)
@@ -110,6 +128,12 @@ module _ (c version : ℕ) (rows : List Row) (part : List ℕ) (h : PartHolds c 
 
   delete_count_is : (key : ℕ) → (delete_change key).count (length rows) (flat rows ++ h.rest) ≡ cond (has_key key rows) (Some (length (without key rows))) None
   delete_count_is key = (delete_is_without key rows h.rest h.sorted).0
+
+  refill_count_is : (count : ℕ) → (refill_change count).count (length rows) (flat rows ++ h.rest) ≡ cond (leb count c) (Some count) None
+  refill_count_is count =
+      let len = behind in
+      let room : length (flat rows ++ h.rest) / 2 ≡ c = omega arith in
+      rw room refl
 
   -- of these rows all or some are copied
   module _ (copy : Copying) (source_rows : List Row) (us : SortedByKey source_rows) where
@@ -131,10 +155,13 @@ module _ (c version : ℕ) (rows : List Row) (part : List ℕ) (h : PartHolds c 
 pub check_counts : CheckCounts
 check_counts = counts
 
+pub rows_are_flat : RowsAreFlat
+rows_are_flat = flat_rows
+
 pub write_tells : WriteTells
 write_tells c version w row rows part h =
     rw ((counts c version rows part h).0 w.place.start)
-    (change_tells c version rows part h w.compartment (put_change row) (leb (length (put row rows)) c) (put row rows) (put_count_is c version rows part h row))
+    (change_tells c version rows part h w.compartment (put_change row) (leb (length (put row rows)) c) (length (put row rows)) (put_count_is c version rows part h row))
 
 pub write_holds : WriteHolds
 write_holds c version w row rows part h small =
@@ -146,7 +173,7 @@ write_holds c version w row rows part h small =
 pub delete_tells : DeleteTells
 delete_tells c version w key rows part h =
     rw ((counts c version rows part h).0 w.place.start)
-    (change_tells c version rows part h w.compartment (delete_change key) (has_key key rows) (without key rows) (delete_count_is c version rows part h key))
+    (change_tells c version rows part h w.compartment (delete_change key) (has_key key rows) (length (without key rows)) (delete_count_is c version rows part h key))
 
 pub delete_holds : DeleteHolds
 delete_holds c version w key rows part h =
@@ -174,7 +201,7 @@ copy_tells copy c version source_rows rows source part b =
     let new = put_all (rows_in copy.range source_rows) rows in
     let u = b.source_holds.sorted in
     rw (copy_part_is copy c version source_rows rows source part b)
-    (change_tells c version rows part b.holds copy.written.compartment (copy_change (flat (rows_in copy.range source_rows)) copy.range) (leb (length new) c) new
+    (change_tells c version rows part b.holds copy.written.compartment (copy_change (flat (rows_in copy.range source_rows)) copy.range) (leb (length new) c) (length new)
     (copy_count_is c version rows part b.holds copy source_rows u))
 
 pub copy_holds : CopyHolds
@@ -187,9 +214,29 @@ copy_holds copy c version source_rows rows source part b =
     (λ e. leb-true (length new) c e) (rising_put_all (rows_in copy.range source_rows) rows b.holds.sorted)
     (all_put_all FitsU32s (rows_in copy.range source_rows) rows (all_rows_in FitsU32s copy.range source_rows b.source_holds.small) b.holds.small))
 
+pub refill_tells : RefillTells
+refill_tells c version w count rows part h =
+    rw ((counts c version rows part h).0 w.place.start)
+    (change_tells c version rows part h w.compartment (refill_change count) (leb count c) count (refill_count_is c version rows part h count))
+
+pub refill_leaves : RefillLeaves
+refill_leaves c version w count rows part h =
+    rw ((counts c version rows part h).0 w.place.start)
+    (λ e. (change_done c version rows part h w.compartment (refill_change count) (leb count c) count (refill_count_is c version rows part h count) e).2
+    ∙ ap (λ l. suc version ∷ count ∷ drop 2 l) (sym h.is))
+
+pub refill_holds : RefillHolds
+refill_holds c version w rows part h =
+    rw ((counts c version rows part h).0 w.place.start)
+    (change_holds c version rows part h w.compartment (refill_change (length rows)) (leb (length rows) c) rows (refill_count_is c version rows part h (length rows))
+    (λ e. ap (λ l. flat rows ++ l) (sym (drop_flat rows h.rest))) (λ e. h.fits) h.sorted h.small)
+
+pub refilled_holds : RefilledHolds
+refilled_holds c version rows new part after h u a f b e = rw (e, h.is) (refilled c version rows part h new u a f b)
+
 pub raise_tells : RaiseTells
 raise_tells c version w rows part h =
-    rw ((counts c version rows part h).0 w.place.start) (change_tells c version rows part h w.compartment no_change true rows refl)
+    rw ((counts c version rows part h).0 w.place.start) (change_tells c version rows part h w.compartment no_change true (length rows) refl)
 
 pub raise_holds : RaiseHolds
 raise_holds c version w rows part h =

@@ -1,5 +1,5 @@
 -- The changes that the rows of a compartment take, and that a refused one leaves them as they are.
-use Rattle.std.specs.Prelude.{◌≡◌, ℕ, ◌*◌, ◌/◌, ◌||◌, List, length, take, Some, None, Option, refl, ◌==◌, nat_lt}
+use Rattle.std.specs.Prelude.{◌≡◌, ℕ, ◌*◌, ◌/◌, if◌then◌else◌, ◌||◌, List, length, take, Some, None, Option, refl, ◌==◌, nat_le, nat_lt}
 use Rattle.std.proofs.Common.{inl, inr}
 use Rattle.std.proofs.lemmas.Bool.{cases_Bool}
 use Rattle.base.specs.declared.refusal.Refusal.{Refusal}
@@ -37,6 +37,18 @@ abbrev pub copy_change : List ℕ → KeyRange → RowsChange
 copy_change new range = record {
   count = λ count rows. (merge_result new range count rows).count;
   rows = λ count rows. (merge_result new range count rows).rows;
+  refusal = λ capacity. NoRoom capacity;
+}
+
+-- a number of rows, where there is room for them
+abbrev pub fitting : ℕ → List ℕ → Option ℕ
+fitting count rows = if nat_le count (length rows / 2) then Some count else None
+
+-- there are so many rows from now on, whatever stands where they lie
+abbrev pub refill_change : ℕ → RowsChange
+refill_change new = record {
+  count = λ count rows. fitting new rows;
+  rows = λ count rows. rows;
   refusal = λ capacity. NoRoom capacity;
 }
 
@@ -86,6 +98,9 @@ copy_refused new range count rows h =
       | inl a ↦ rw a refl
       | inr a ↦ let n = rw a at h in cc
     ]
+
+pub refill_refused : (new count : ℕ) (rows : List ℕ) → LeavesRows (refill_change new) count rows
+refill_refused new count rows h = refl
 
 pub no_change_refused : (count : ℕ) (rows : List ℕ) → LeavesRows no_change count rows
 no_change_refused count rows h = refl

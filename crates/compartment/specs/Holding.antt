@@ -1,14 +1,15 @@
 -- A part that holds a version and rows, and what the calls mean there, said of rows.
-use Rattle.std.specs.Prelude.{◌≡◌, ℕ, suc, ◌+◌, ◌*◌, ◌^◌, ◌<◌, ◌≤◌, false, if◌then◌else◌, List, [], ◌∷◌, ◌++◌, length, replicate, is_ok, Ok, Err, Result, nat_le, nat_lt, slice_index}
+use Rattle.std.specs.Prelude.{◌≡◌, ℕ, suc, ◌+◌, ◌*◌, ◌^◌, ◌<◌, ◌≤◌, false, if◌then◌else◌, List, [], ◌∷◌, ◌++◌, length, drop, replicate, is_ok, Ok, Err, Result, nat_le, nat_lt, slice_index}
 use Rattle.rows.specs.declared.Row.{Row}
 use Rattle.rows.specs.Rows.{SortedByKey, put, put_all, without, has_key, rows_in}
 use Rattle.rows.specs.Halving.{flat}
+use Rattle.rows.specs.Numbers.{in_front}
 use Rattle.policy.specs.declared.place.Written.{Written}
 use Rattle.base.specs.declared.refusal.Refusal.{Refusal}
 use Rattle.base.specs.declared.refusal.Refusal.TheVariants.{NoRoom, NoRow, LastVersion}
 use Rattle.compartment.specs.declared.copying.Copying.{Copying}
 use Rattle.compartment.specs.Changes.{RowsChange}
-use Rattle.compartment.specs.Parts.{limit, count_told, change_part, write_part, delete_part, copy_part, raise_part}
+use Rattle.compartment.specs.Parts.{limit, count_told, rows_part, change_part, write_part, delete_part, copy_part, refill_part, raise_part}
 use Rattle.std.specs.List.{AllByRecursion}
 
 -- a row as requests have it
@@ -43,6 +44,12 @@ abbrev pub CheckCounts : Type 0
 CheckCounts =
     (capacity version : ℕ) (rows : List Row) (part : List ℕ) → PartHolds capacity version rows part
     → ((start : ℕ) → count_told start part ≡ Ok (length rows)) × (slice_index part 0 ≡ version)
+
+-- and these are its rows
+abbrev pub RowsAreFlat : Type 0
+RowsAreFlat =
+    (capacity version : ℕ) (rows : List Row) (part : List ℕ) → PartHolds capacity version rows part
+    → rows_part (length rows) part ≡ flat rows
 
 -- a refused change leaves the part, whatever it holds
 abbrev pub RefusedChangeLeaves : Type 0
@@ -109,6 +116,35 @@ abbrev pub RefusedCopyLeaves : Type 0
 RefusedCopyLeaves =
     (c : Copying) (source part : List ℕ)
     → is_ok (copy_part c source part).told ≡ false → (copy_part c source part).memory ≡ part
+
+-- a refill tells whether there is room for so many rows and the version may rise
+abbrev pub RefillTells : Type 0
+RefillTells =
+    (capacity version : ℕ) (w : Written) (count : ℕ) (rows : List Row) (part : List ℕ)
+    → PartHolds capacity version rows part
+    → (refill_part w count part).told ≡ room_check capacity w.compartment version count
+
+-- and where it is done it sets the two numbers, and nothing else
+abbrev pub RefillLeaves : Type 0
+RefillLeaves =
+    (capacity version : ℕ) (w : Written) (count : ℕ) (rows : List Row) (part : List ℕ)
+    → PartHolds capacity version rows part
+    → (refill_part w count part).told ≡ Ok tt → (refill_part w count part).memory ≡ suc version ∷ count ∷ drop 2 part
+
+-- to as many rows as there are
+abbrev pub RefillHolds : Type 0
+RefillHolds =
+    (capacity version : ℕ) (w : Written) (rows : List Row) (part : List ℕ) → PartHolds capacity version rows part
+    → (refill_part w (length rows) part).told ≡ Ok tt
+    → PartHolds capacity (suc version) rows (refill_part w (length rows) part).memory
+
+-- other rows in front, one version on
+abbrev pub RefilledHolds : Type 0
+RefilledHolds =
+    (capacity version : ℕ) (rows new : List Row) (part after : List ℕ) → PartHolds capacity version rows part
+    → SortedByKey new → AllByRecursion FitsU32s new → length new ≤ capacity → suc version < limit
+    → after ≡ suc version ∷ length new ∷ in_front new (drop 2 part)
+    → PartHolds capacity (suc version) new after
 
 -- a raise tells whether the version may rise
 abbrev pub RaiseTells : Type 0

@@ -1,5 +1,5 @@
 -- What each call tells of a compartment's part of memory and makes of it, whatever it holds.
-use Rattle.std.specs.Prelude.{ℕ, ◌+◌, ◌-◌, ◌*◌, ◌/◌, ◌^◌, min, Bool, if◌then◌else◌, ◌&&◌, List, ◌++◌, length, take, drop, ok_or, Ok, Err, Result, nat_le, nat_lt, slice_index, slice_set}
+use Rattle.std.specs.Prelude.{ℕ, ◌+◌, ◌-◌, ◌*◌, ◌/◌, ◌^◌, min, Bool, if◌then◌else◌, ◌&&◌, List, [], ◌++◌, length, take, drop, ok_or, Ok, Err, Result, nat_le, nat_lt, slice_index, slice_set}
 use Rattle.rows.specs.declared.KeyRange.{KeyRange}
 use Rattle.rows.specs.declared.Row.{Row}
 use Rattle.rows.specs.Numbers.{range_part}
@@ -9,7 +9,7 @@ use Rattle.base.specs.declared.refusal.Refusal.TheVariants.{OutOfBounds, LastVer
 use Rattle.compartment.specs.declared.copying.Copying.{Copying}
 use Rattle.compartment.specs.declared.copying.Counts.{Counts}
 use Rattle.compartment.specs.ChangeResult.{ChangeResult, refused_change, change_unless_refused}
-use Rattle.compartment.specs.Changes.{RowsChange, put_change, delete_change, copy_change, no_change}
+use Rattle.compartment.specs.Changes.{RowsChange, put_change, delete_change, copy_change, refill_change, no_change}
 
 -- every version is below it
 abbrev pub limit : ℕ
@@ -33,6 +33,10 @@ fault start part = OutOfBounds (if version_fits part then min (start + 1) (2 ^ 6
 
 abbrev pub count_told : ℕ → List ℕ → Result ℕ Refusal
 count_told start part = if in_bounds part then Ok (slice_index part 1) else Err (fault start part)
+
+-- the first rows, where there are as many
+abbrev pub rows_part : ℕ → List ℕ → List ℕ
+rows_part count part = if nat_le (2 + 2 * count) (length part) then take (2 * count) (drop 2 part) else []
 
 -- a part with this version and this number of rows
 abbrev pub with_heading : ℕ → ℕ → List ℕ → List ℕ
@@ -61,6 +65,10 @@ write_part w row part = change_part w (put_change row) part
 
 abbrev pub delete_part : Written → ℕ → List ℕ → ChangeResult
 delete_part w key part = change_part w (delete_change key) part
+
+-- one version on, and another number of rows
+abbrev pub refill_part : Written → ℕ → List ℕ → ChangeResult
+refill_part w count part = change_part w (refill_change count) part
 
 -- one version on, and no row of it
 abbrev pub raise_part : Written → List ℕ → ChangeResult

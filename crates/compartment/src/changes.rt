@@ -1,6 +1,6 @@
 // The changes that the rows of a compartment take.
 ghost use Rattle.std.specs.Prelude.{◌≡◌, ℕ, ◌*◌, ◌≤◌, List, length, is_some};
-ghost use Rattle.compartment.specs.Changes.{RowsChange, LeavesRows, put_change, delete_change, copy_change, no_change, put_refused, delete_refused, copy_refused, no_change_refused};
+ghost use Rattle.compartment.specs.Changes.{RowsChange, LeavesRows, fitting, put_change, delete_change, copy_change, refill_change, no_change, put_refused, delete_refused, copy_refused, refill_refused, no_change_refused};
 
 use base::Refusal;
 use rows::{KeyRange, Row};
@@ -88,6 +88,36 @@ impl Change for CopyOf<'_> {
 
     fn make(self, rows: &mut [u64], count: usize) -> Option<usize> {
         merge::copy_rows(self.rows, self.range, rows, count)
+    }
+
+    fn refusal(self, capacity: usize) -> Refusal {
+        Refusal::NoRoom { capacity }
+    }
+}
+
+// There are so many rows from now on, whatever stands where they lie.
+#[derive(Clone, Copy)]
+pub(crate) struct Refill(pub(crate) usize);
+
+impl Refill {
+    fn fitting(self, rows: &[u64]) -> Option<usize>
+        ensures { result ≡ fitting self.0 rows.now }
+    {
+        (self.0 <= rows.len() / 2).then_some(self.0)
+    }
+}
+
+impl Change for Refill {
+    ghost effect = { λ refill. refill_change refill.0 };
+
+    ghost refused_leaves = { λ refill. refill_refused refill.0 };
+
+    fn fits(self, rows: &[u64], _count: usize) -> bool {
+        self.fitting(rows).is_some()
+    }
+
+    fn make(self, rows: &mut [u64], _count: usize) -> Option<usize> {
+        self.fitting(rows)
     }
 
     fn refusal(self, capacity: usize) -> Refusal {

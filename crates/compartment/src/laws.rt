@@ -1,10 +1,11 @@
 // What the calls mean on a part that holds a version and rows: each function carries theorems, and does nothing else.
-ghost use Rattle.compartment.specs.Holding.{EmptyHolds, CheckCounts, RefusedChangeLeaves, WriteTells, WriteHolds, DeleteTells, DeleteHolds, CopyTells, CopyHolds, RefusedCopyLeaves, RaiseTells, RaiseHolds};
+ghost use Rattle.compartment.specs.Holding.{EmptyHolds, CheckCounts, RowsAreFlat, RefusedChangeLeaves, WriteTells, WriteHolds, DeleteTells, DeleteHolds, CopyTells, CopyHolds, RefusedCopyLeaves, RefillTells, RefillLeaves, RefillHolds, RefilledHolds, RaiseTells, RaiseHolds};
 
-/// Zeros hold no rows, and a part that holds rows is in bounds.
+/// Zeros hold no rows, and a part that holds rows is in bounds and has them in front.
 pub fn holds_stands()
     ensures empty { EmptyHolds }
     ensures counts { CheckCounts }
+    ensures rows { RowsAreFlat }
 {}
 
 /// Refusals leave the part.
@@ -29,6 +30,14 @@ pub fn delete_stands()
 pub fn copy_stands()
     ensures tells { CopyTells }
     ensures holds { CopyHolds }
+{}
+
+/// A refill sets the number of rows, and a part with other rows in front holds these.
+pub fn refill_stands()
+    ensures tells { RefillTells }
+    ensures leaves { RefillLeaves }
+    ensures holds { RefillHolds }
+    ensures refilled { RefilledHolds }
 {}
 
 /// A raise changes no row.

@@ -2,10 +2,10 @@
 #![tactic(auto)]
 
 ghost use Rattle.std.specs.Prelude.{◌≡◌, ◌+◌, ◌*◌, ◌^◌, ◌<◌, ◌≤◌, length, take, drop, IfOk, slice_index};
-ghost use Rattle.compartment.specs.Parts.{count_told, counts_of, change_rows, change_part, write_part, delete_part, copy_part, raise_part};
+ghost use Rattle.compartment.specs.Parts.{count_told, rows_part, counts_of, change_rows, change_part, write_part, delete_part, copy_part, refill_part, raise_part};
 
 use base::Refusal;
-use changes::{Change, CopyOf, Put, SameRows, Without};
+use changes::{Change, CopyOf, Put, Refill, SameRows, Without};
 pub use copying::Copying;
 use copying::Counts;
 use policy::{VERSION_LIMIT, Written};
@@ -28,6 +28,16 @@ pub fn check(part: &[u64], start: usize) -> Result<usize, Refusal>
             }),
         },
         _ => Err(Refusal::OutOfBounds { place: start }),
+    }
+}
+
+/// The first `count` rows; none where the part doesn't hold as many.
+pub fn rows_of(part: &[u64], count: usize) -> &[u64]
+    ensures { result.now ≡ rows_part count part.now }
+{
+    match part {
+        [_, _, rows @ ..] if count <= rows.len() / 2 => first_rows(part, count),
+        _ => &part[..0],
     }
 }
 
@@ -56,10 +66,18 @@ pub fn copy(copying: Copying, source: &[u64], part: &mut [u64]) -> Result<(), Re
 {
     let counts = check_both(copying, source, part)?;
     let range = copying.range;
-    let rows = rows::range(rows_of(source, counts.source), range);
+    let rows = rows::range(first_rows(source, counts.source), range);
     let compartment = copying.written.compartment;
     let change = CopyOf { rows, range };
     change_rows(part, compartment, counts.destination, change)
+}
+
+/// Raises the version and sets the number of rows, which the caller then writes; a refusal changes nothing.
+pub fn refill(part: &mut [u64], written: Written, count: usize) -> Result<(), Refusal>
+    ensures told { result ≡ (refill_part written count part.old).told }
+    ensures after { part.new ≡ (refill_part written count part.old).memory }
+{
+    change(part, written, Refill(count))
 }
 
 /// Raises the version alone, as a copy of a compartment into itself does; a refusal changes nothing.
@@ -96,7 +114,7 @@ fn check_both(copying: Copying, source: &[u64], part: &[u64]) -> Result<Counts, 
 }
 
 // The first rows of a part that was judged.
-fn rows_of(part: &[u64], count: usize) -> &[u64]
+fn first_rows(part: &[u64], count: usize) -> &[u64]
     requires { 2 + 2 * count ≤ length part.now }
     ensures { result.now ≡ take (2 * count) (drop 2 part.now) }
 {
@@ -141,7 +159,7 @@ fn change_rows<C: Change>(
 
 #[cfg(test)]
 mod tests {
-    use super::{Copying, copy, delete, raise, write};
+    use super::{Copying, copy, delete, raise, refill, rows_of, write};
     use base::Refusal;
     use policy::{Place, VERSION_LIMIT, Written};
     use rows::{KeyRange, Row};
@@ -176,6 +194,7 @@ mod tests {
         assert!(rt; part == [2, 2, 5, 50, 7, 70]);
         assert!(rt; delete(&mut part, WRITTEN, 5).is_ok());
         assert!(rt; part[..4] == [3, 1, 7, 70]);
+        assert!(rt; rows_of(&part, 1) == [7, 70].as_slice());
     }
 
     #[test]
@@ -189,6 +208,10 @@ mod tests {
         assert!(rt; matches!(none, Err(Refusal::NoRow { key: 8 })));
         let last = raise(&mut part, WRITTEN);
         assert!(rt; matches!(last, Err(Refusal::LastVersion { compartment: 3 })));
+        let last = refill(&mut part, WRITTEN, 1);
+        assert!(rt; matches!(last, Err(Refusal::LastVersion { compartment: 3 })));
+        let full = refill(&mut part, WRITTEN, 2);
+        assert!(rt; matches!(full, Err(Refusal::NoRoom { capacity: 1 })));
         let last = copy(COPYING, &[0, 1, 7, 71], &mut part);
         assert!(rt; matches!(last, Err(Refusal::LastVersion { compartment: 3 })));
         let full = copy(COPYING, &[0, 1, 8, 80], &mut part);
@@ -208,6 +231,33 @@ mod tests {
         assert!(rt; part == [6, 2, 5, 50, 7, 71]);
         let both = copy(COPYING, &[0, 1], &mut [0, 3, 0, 0]);
         assert!(rt; matches!(both, Err(Refusal::OutOfBounds { place: 3 })));
+    }
+
+    #[test]
+    fn cuts_rows_where_there_are_as_many(rt: HostRuntime) {
+        let part = [4, 1, 7, 70, 8, 80, 9];
+        assert!(rt; rows_of(&part, 0) == [].as_slice());
+        assert!(rt; rows_of(&part, 1) == [7, 70].as_slice());
+        assert!(rt; rows_of(&part, 2) == [7, 70, 8, 80].as_slice());
+        assert!(rt; rows_of(&part, 3) == [].as_slice());
+        assert!(rt; rows_of(&part, usize::MAX) == [].as_slice());
+        assert!(rt; rows_of(&part[..1], 0) == [].as_slice());
+    }
+
+    #[test]
+    fn refills_where_there_is_room(rt: HostRuntime) {
+        let mut part = [4, 1, 7, 70, 0, 0];
+        let full = refill(&mut part, WRITTEN, 3);
+        assert!(rt; matches!(full, Err(Refusal::NoRoom { capacity: 2 })));
+        assert!(rt; part == [4, 1, 7, 70, 0, 0]);
+        assert!(rt; refill(&mut part, WRITTEN, 2).is_ok());
+        assert!(rt; part == [5, 2, 7, 70, 0, 0]);
+        assert!(rt; refill(&mut part, WRITTEN, 0).is_ok());
+        assert!(rt; part == [6, 0, 7, 70, 0, 0]);
+        let short = refill(&mut part[..1], WRITTEN, 0);
+        assert!(rt; matches!(short, Err(Refusal::OutOfBounds { place: 10 })));
+        let damaged = refill(&mut [4, 2, 7, 70], WRITTEN, 1);
+        assert!(rt; matches!(damaged, Err(Refusal::OutOfBounds { place: 11 })));
     }
 
     #[test]

@@ -34,6 +34,7 @@ pub fn write_graph<W: Write>(out: &mut Output<W>, policy: &Policy) -> io::Result
     write_policy::<Graph, W>(out, policy)
 }
 
+#[tactic(auto, using(output::proofs::Chains::all_then, output::proofs::Chains::part_then))]
 fn write_policy<F: Form, W: Write>(out: &mut Output<W>, policy: &Policy) -> io::Result<()>
     ensures { Writes out.old out.new result (policy_bytes F.shape (rules_of policy.now) (compartments_of policy.now)) }
 {

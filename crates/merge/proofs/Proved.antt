@@ -66,25 +66,25 @@ plan_is_range range ss ds us ud =
       omega arith,
     )
 
-module _ (m : List ℕ) (place : ℕ) (ss ds bs : List Row) (us : SortedByKey ss) (ud : SortedByKey ds)
-    (stands : Stands (ds ++ bs) place m) (within : 2 * place + 2 * length (put_all ss ds ++ bs) ≤ length m) where
+module _ (m : List ℕ) (start : ℕ) (ss ds bs : List Row) (us : SortedByKey ss) (ud : SortedByKey ds)
+    (stands : Stands (ds ++ bs) start m) (within : start + 2 * length (put_all ss ds ++ bs) ≤ length m) where
   all_are : length (put_all ss ds ++ bs) ≡ length (put_all ss ds) + length bs
   all_are = length-append (put_all ss ds) bs
 
-  it_fits : fits_in (copying place ss ds bs) (length m / 2) ≡ true
+  it_fits : fits_in (copying start ss ds bs) (length m) ≡ true
   it_fits =
       let n = all_are in
       rw (
         le-leb (length ds) (length (put_all ss ds)) (no_fewer ss ds),
-        le-leb (place + length (put_all ss ds) + length bs) (length m / 2) (omega arith),
+        le-leb (start + 2 * length (put_all ss ds) + 2 * length bs) (length m) (omega arith),
       ) refl
 
-  -- the numbers from the place on
+  -- the numbers from the start on
   abbrev among : List ℕ
-  among = drop (2 * place) m
+  among = drop (start) m
 
-  long : length among ≡ length m - 2 * place
-  long = length-drop (2 * place) m
+  long : length among ≡ length m - start
+  long = length-drop (start) m
 
   abbrev gap : List ℕ
   gap = take (2 * length (put_all ss ds)) among
@@ -96,7 +96,7 @@ module _ (m : List ℕ) (place : ℕ) (ss ds bs : List Row) (us : SortedByKey ss
   rest = flat bs ++ drop (2 * length (put_all ss ds) + 2 * length bs) among
 
   -- the rows behind stand where they will
-  spread_is : spread (copying place ss ds bs) among ≡ gap ++ rest
+  spread_is : spread (copying start ss ds bs) among ≡ gap ++ rest
   spread_is =
       let n : 2 * length ds + 2 * length bs - 2 * length ds ≡ 2 * length bs = omega arith in
       rw (n, fronts_behind ds bs among stands) (append_assoc gap (flat bs) (drop (2 * length (put_all ss ds) + 2 * length bs) among))
@@ -113,22 +113,22 @@ module _ (m : List ℕ) (place : ℕ) (ss ds bs : List Row) (us : SortedByKey ss
     room = omega (arith, gap_is, length-append gap rest);
   }
 
-  it_merges : merged_into (flat ss) (copying place ss ds bs) m ≡ rows_at place (put_all ss ds ++ bs) m
+  it_merges : merged_into (flat ss) (copying start ss ds bs) m ≡ rows_at start (put_all ss ds ++ bs) m
   it_merges =
       let n = all_are in
-      let all : 2 * place + 2 * length (put_all ss ds ++ bs) ≡ 2 * place + (2 * length (put_all ss ds) + 2 * length bs) = omega arith in
-      let behind : drop (2 * length (put_all ss ds) + 2 * length bs) among ≡ drop (2 * place + 2 * length (put_all ss ds ++ bs)) m =
-      drop-drop (2 * length (put_all ss ds) + 2 * length bs) (2 * place) m ∙ ap (λ n. drop n m) (sym all) in
+      let all : start + 2 * length (put_all ss ds ++ bs) ≡ start + (2 * length (put_all ss ds) + 2 * length bs) = omega arith in
+      let behind : drop (2 * length (put_all ss ds) + 2 * length bs) among ≡ drop (start + 2 * length (put_all ss ds ++ bs)) m =
+      drop-drop (2 * length (put_all ss ds) + 2 * length bs) (start) m ∙ ap (λ n. drop n m) (sym all) in
       let front : drop (2 * length (put_all ss ds)) (gap ++ rest) ≡ rest = drop_at gap rest (2 * length (put_all ss ds)) gap_is in
       rw (it_fits, rows_of_flat ss, spread_is)
-      (ap (λ l. take (2 * place) m ++ l)
+      (ap (λ l. take (start) m ++ l)
       (merges (length (put_all ss ds)) (gap ++ rest) ss ds ready
       ∙ (ap (λ l. flat (put_all ss ds) ++ l) (front ∙ ap (λ l. flat bs ++ l) behind)
-      ∙ (sym (append_assoc (flat (put_all ss ds)) (flat bs) (drop (2 * place + 2 * length (put_all ss ds ++ bs)) m))
-      ∙ ap (λ l. l ++ drop (2 * place + 2 * length (put_all ss ds ++ bs)) m) (sym (flat_append (put_all ss ds) bs))))))
+      ∙ (sym (append_assoc (flat (put_all ss ds)) (flat bs) (drop (start + 2 * length (put_all ss ds ++ bs)) m))
+      ∙ ap (λ l. l ++ drop (start + 2 * length (put_all ss ds ++ bs)) m) (sym (flat_append (put_all ss ds) bs))))))
 
 pub merge_is_put_all : MergeIsPutAll
-merge_is_put_all m place ss ds bs us ud stands within = (it_fits m place ss ds bs us ud stands within, it_merges m place ss ds bs us ud stands within)
+merge_is_put_all m start ss ds bs us ud stands within = (it_fits m start ss ds bs us ud stands within, it_merges m start ss ds bs us ud stands within)
 
 -- rows of a range come among those of that range alone
 module _ (range : KeyRange) (ss ds : List Row) (rest : List ℕ) (us : SortedByKey ss) (ud : SortedByKey ds)
@@ -156,7 +156,7 @@ module _ (range : KeyRange) (ss ds : List Row) (rest : List ℕ) (us : SortedByK
       let stands = rw first at (fronts_behind (rows_before range ds) (rows_in range ds ++ rows_above range ds) memory in_parts) in
       let before = rw first at (fronts_front (rows_before range ds) (rows_in range ds ++ rows_above range ds) memory in_parts) in
       let n : 2 * smaller range.from ds + 2 * length new ≡ 2 * length (put_all (rows_in range ss) ds) = omega (arith, all) in
-      it_merges memory (smaller range.from ds) (rows_in range ss) (rows_in range ds) (rows_above range ds)
+      it_merges memory (2 * smaller range.from ds) (rows_in range ss) (rows_in range ds) (rows_above range ds)
       (up_rows_in 0 range ss us) (up_rows_in 0 range ds ud) stands (omega arith)
       ∙ rw (before, n)
       (sym (append_assoc (flat (rows_before range ds)) (flat new) (drop (2 * length (put_all (rows_in range ss) ds)) memory))

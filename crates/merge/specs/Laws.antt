@@ -1,5 +1,5 @@
 -- What the calls mean on rows that are sorted by key.
-use Rattle.std.specs.Prelude.{◌≡◌, ℕ, ◌+◌, ◌*◌, ◌/◌, ◌≤◌, max, true, if◌then◌else◌, List, ◌++◌, length, take, drop, Some, None}
+use Rattle.std.specs.Prelude.{◌≡◌, ℕ, ◌+◌, ◌*◌, ◌≤◌, max, true, if◌then◌else◌, List, ◌++◌, length, take, drop, Some, None}
 use Rattle.rows.specs.declared.Row.{Row}
 use Rattle.rows.specs.declared.KeyRange.{KeyRange}
 use Rattle.rows.specs.Rows.{SortedByKey, smaller, put_all, rows_in}
@@ -23,17 +23,16 @@ CountsAfter =
 
 -- rows stand in memory from a place on
 abbrev pub Stands : List Row → ℕ → List ℕ → Type 0
-Stands rs at m = take (2 * length rs) (drop (2 * at) m) ≡ flat rs
+Stands rs at m = take (2 * length rs) (drop at m) ≡ flat rs
 
 -- memory with rows written from a place on, and nothing else changed
 abbrev pub rows_at : ℕ → List Row → List ℕ → List ℕ
-rows_at at rs m = take (2 * at) m ++ (flat rs ++ drop (2 * at + 2 * length rs) m)
+rows_at at rs m = take at m ++ (flat rs ++ drop (at + 2 * length rs) m)
 
 -- the numbers by which `ss` come among `ds` from a place on, with `bs` behind them
 abbrev pub copying : ℕ → List Row → List Row → List Row → Copying
-copying place ss ds bs = record {
-  place = place;
-  count = length ds;
+copying start ss ds bs = record {
+  destination = record { start = start; count = length ds };
   behind = length bs;
   total = length (put_all ss ds);
 }
@@ -48,15 +47,15 @@ rows_above range rs = drop (max (smaller range.from rs) (smaller (range.to + 1) 
 -- the numbers by which the rows of a range come among `ds`
 abbrev pub copying_range : KeyRange → List Row → List Row → Copying
 copying_range range ss ds =
-    copying (smaller range.from ds) (rows_in range ss) (rows_in range ds) (rows_above range ds)
+    copying (2 * smaller range.from ds) (rows_in range ss) (rows_in range ds) (rows_above range ds)
 
 -- the merge is put after put by key, and moves what stands behind, any rows
 abbrev pub MergeIsPutAll : Type 0
 MergeIsPutAll =
-    (m : List ℕ) (place : ℕ) (ss ds bs : List Row) → SortedByKey ss → SortedByKey ds
-    → Stands (ds ++ bs) place m → 2 * place + 2 * length (put_all ss ds ++ bs) ≤ length m
-    → (fits_in (copying place ss ds bs) (length m / 2) ≡ true)
-    × (merged_into (flat ss) (copying place ss ds bs) m ≡ rows_at place (put_all ss ds ++ bs) m)
+    (m : List ℕ) (start : ℕ) (ss ds bs : List Row) → SortedByKey ss → SortedByKey ds
+    → Stands (ds ++ bs) start m → start + 2 * length (put_all ss ds ++ bs) ≤ length m
+    → (fits_in (copying start ss ds bs) (length m) ≡ true)
+    × (merged_into (flat ss) (copying start ss ds bs) m ≡ rows_at start (put_all ss ds ++ bs) m)
 
 -- the rows to copy are those of the range, the plan has these numbers, and they say how many rows there will be
 abbrev pub PlanIsRange : Type 0

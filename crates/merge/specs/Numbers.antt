@@ -21,15 +21,18 @@ count_after rows range destination = length destination / 2 + new_keys rows (ran
 -- what a copy of rows whose keys lie in a range comes to
 abbrev pub plan : List ℕ → KeyRange → List ℕ → Copying
 plan rows range destination = record {
-  place = position range.from destination;
-  count = length (range_part range destination) / 2;
+  destination = record {
+    start = 2 * position range.from destination;
+    count = length (range_part range destination) / 2;
+  };
   behind = length destination / 2 - position range.from destination - length (range_part range destination) / 2;
   total = length (range_part range destination) / 2 + new_keys rows (range_part range destination);
 }
 
--- all rows that there are to be have room, and none has to go
+-- so many numbers hold all rows that there are to be, and none has to go
 abbrev pub fits_in : Copying → ℕ → Bool
-fits_in c room = nat_le c.count c.total && nat_le (c.place + c.total + c.behind) room
+fits_in c len =
+    nat_le c.destination.count c.total && nat_le (c.destination.start + 2 * c.total + 2 * c.behind) len
 
 -- the row at a place
 abbrev pub row_at : ℕ → List ℕ → Row
@@ -64,7 +67,7 @@ written row left m =
     if keeps row.key left m then row_written (left.total - 1) (row_at (left.count - 1) m) m
     else row_written (left.total - 1) row m
 
--- turn after turn, one for each place, until no row to copy is left: the rows to copy are given last one first
+-- turn after turn, one for each place, until no row to copy is left; the rows to copy come last one first
 unfoldable pub merging : ℕ → List Row → Left → List ℕ → List ℕ
 merging zero rows left m = m
 merging (suc places) [] left m = m
@@ -74,15 +77,17 @@ merging (suc places) (row ∷ rows) left m =
 
 -- the rows behind those of the destination move to where they will stand
 abbrev pub spread : Copying → List ℕ → List ℕ
-spread c m = paste m (2 * c.total) (drop (2 * c.count) m) (2 * c.count + 2 * c.behind - 2 * c.count)
+spread c m =
+    paste m (2 * c.total) (drop (2 * c.destination.count) m)
+    (2 * c.destination.count + 2 * c.behind - 2 * c.destination.count)
 
 -- memory with the rows merged, where they fit
 abbrev pub merged_into : List ℕ → Copying → List ℕ → List ℕ
 merged_into rows c m =
-    if fits_in c (length m / 2)
-    then take (2 * c.place) m
-    ++ merging c.total (reverse (rows_of rows)) (record { count = c.count; total = c.total })
-    (spread c (drop (2 * c.place) m))
+    if fits_in c (length m)
+    then take c.destination.start m
+    ++ merging c.total (reverse (rows_of rows)) (record { count = c.destination.count; total = c.total })
+    (spread c (drop c.destination.start m))
     else m
 
 -- how many rows there are after a copy, if it is not refused, and what holds them

@@ -10,12 +10,18 @@ use std::cmp::Ordering;
 
 pub mod laws;
 
-/// The rows of a destination that others come among: where they begin, how many they are, how many more stand behind
-/// them, and how many there are to be in place of those.
+/// Rows of a slice: the number that they begin at, and how many they are.
+#[derive(Clone, Copy, PartialEq, Eq, Debug)]
+pub struct Part {
+    pub start: usize,
+    pub count: usize,
+}
+
+/// The rows of a destination that others come among, how many more stand behind those, and how many there are to be in
+/// place of those.
 #[derive(Clone, Copy, PartialEq, Eq, Debug)]
 pub struct Copying {
-    pub place: usize,
-    pub count: usize,
+    pub destination: Part,
     pub behind: usize,
     pub total: usize,
 }
@@ -40,37 +46,35 @@ pub fn count_after(rows: &[u64], keys: KeyRange, destination: &[u64]) -> usize
 /// and the new keys are counted.
 pub fn plan(rows: &[u64], keys: KeyRange, destination: &[u64]) -> Copying
     ensures value { result ≡ plan rows.now keys destination.now }
-    ensures parts { result.place + result.count + result.behind ≡ length destination.now / 2 }
-    ensures within { result.total ≤ result.count + length rows.now / 2 }
-    ensures order { result.count ≤ result.total }
+    ensures all { result.destination.start / 2 + result.destination.count + result.behind ≡ length destination.now / 2 }
+    ensures within { result.total ≤ result.destination.count + length rows.now / 2 }
+    ensures order { result.destination.count ≤ result.total }
 {
     let among = range(destination, keys);
     let first = position(destination, u64::from(keys.from));
     let count = among.len() / 2;
     Copying {
-        place: first,
-        count,
+        destination: Part {
+            start: 2 * first,
+            count,
+        },
         behind: destination.len() / 2 - first - count,
         total: count + new_keys(rows, among),
     }
 }
 
-/// Merges `rows` among those of the destination, a row with the same key being replaced, and moves those behind them
-/// once; where there is no room for all, or there are to be fewer rows than before, nothing changes.
+/// Merges `rows` among those of the destination, each in place of the one with its key, moves those behind them once,
+/// and says that it is done; where all have no room, or there are to be fewer rows than before, nothing changes.
 pub fn merge_into(rows: &[u64], destination: &mut [u64], copying: Copying) -> bool
-    ensures told { result ≡ fits_in copying (length destination.old / 2) }
+    ensures told { result ≡ fits_in copying (length destination.old) }
     ensures after { destination.new ≡ merged_into rows.now copying destination.old }
 {
-    if !copying.fits_in(destination.len() / 2) {
+    if !copying.fits_in(destination.len()) {
         return false;
     }
-    let Copying {
-        place,
-        count,
-        behind,
-        total,
-    } = copying;
-    let among = &mut destination[2 * place..];
+    let Part { start, count } = copying.destination;
+    let Copying { behind, total, .. } = copying;
+    let among = &mut destination[start..];
     among.copy_within(2 * count..2 * count + 2 * behind, 2 * total);
     merge(rows, among, Left { count, total });
     true
@@ -94,7 +98,7 @@ pub fn copy_rows(
         return None;
     }
     let copying = plan(rows, keys, &destination[..2 * count]);
-    let total = copying.place + copying.total + copying.behind;
+    let total = count - copying.destination.count + copying.total;
     if total > room {
         return None;
     }
@@ -104,14 +108,15 @@ pub fn copy_rows(
 }
 
 impl Copying {
-    // Whether a destination with room for so many rows holds all that there are to be, and none has to go.
-    fn fits_in(&self, room: usize) -> bool
-        ensures { result ≡ fits_in self.now room }
+    // Whether so many numbers hold all rows that there are to be, and none has to go.
+    fn fits_in(&self, len: usize) -> bool
+        ensures { result ≡ fits_in self.now len }
     {
-        self.count <= self.total
-            && self.place <= room
-            && self.total <= room - self.place
-            && self.behind <= room - self.place - self.total
+        let Part { start, count } = self.destination;
+        count <= self.total
+            && start <= len
+            && self.total <= (len - start) / 2
+            && self.behind <= (len - start) / 2 - self.total
     }
 }
 
@@ -123,8 +128,8 @@ struct Left {
     total: usize,
 }
 
-// From behind, so that no row of sorted ones is written over before it has moved: done where no row to copy is left, and
-// stopped where no place is.
+// From behind, so that no row of sorted ones is written over before it has moved. It is done where no row to copy is
+// left, and stops where no place is, as it may where rows are not sorted.
 fn merge(rows: &[u64], destination: &mut [u64], left: Left)
     requires count { 2 * left.count ≤ length destination.old }
     requires total { 2 * left.total ≤ length destination.old }
@@ -143,8 +148,8 @@ fn merge(rows: &[u64], destination: &mut [u64], left: Left)
 }
 
 impl Left {
-    // Writes the greater of the last row left and the one to copy to the last place left, the one to copy where keys are
-    // equal, and says whether it was that.
+    // Writes the last row left or the one to copy to the last place left: the greater, and the one to copy where keys
+    // are equal. Says whether it was that.
     fn turn(&mut self, row: [u64; 2], destination: &mut [u64]) -> bool
         requires count { 2 * self.old.count ≤ length destination.old }
         requires total { 2 * self.old.total ≤ length destination.old }
@@ -216,8 +221,7 @@ mod tests {
     fn plans_a_range(rt: HostRuntime) {
         let keys = KeyRange { from: 4, to: 8 };
         let found = Copying {
-            place: 1,
-            count: 2,
+            destination: Part { start: 2, count: 2 },
             behind: 1,
             total: 3,
         };
@@ -229,8 +233,7 @@ mod tests {
         let rows = [5, 50, 7, 70];
         let mut memory = [1, 1, 5, 6, 9, 9, 8, 8, 8];
         let copying = Copying {
-            place: 0,
-            count: 2,
+            destination: Part { start: 0, count: 2 },
             behind: 1,
             total: 3,
         };
@@ -242,7 +245,7 @@ mod tests {
         };
         assert!(rt; !merge_into(&rows, &mut memory, outside));
         let fewer = Copying {
-            count: 4,
+            destination: Part { start: 0, count: 4 },
             ..copying
         };
         assert!(rt; !merge_into(&rows, &mut memory, fewer));

@@ -1,186 +1,161 @@
 -- The merge from behind, on sorted rows, is put after put.
-use Rattle.std.proofs.Common.{◌≡◌, ℕ, zero, suc, ◌+◌, ◌-◌, ◌*◌, ◌<◌, ◌≤◌, false, List, [], ◌∷◌, ◌++◌, length, map, reverse, take, drop, sym, refl, ap, ◌∙◌, inl, inr, arith}
-use Rattle.std.specs.List.{AllByRecursion}
-use Rattle.std.proofs.Math.Seq.{take-length}
-use Rattle.std.proofs.lemmas.Bool.{cases_lt, ne_eqb, eqb-false}
-use Rattle.std.proofs.lemmas.List.{append_assoc, length-append, length-take-le, map-append, reverse-append, take-append-drop, take-take, take-append-le, take_at, drop_at, drop-take, nil_from_length}
+use Rattle.std.proofs.Common.{◌≡◌, ℕ, zero, suc, ◌-◌, ◌*◌, ◌<◌, ◌≤◌, true, false, eqb, ltb, List, [], ◌∷◌, ◌++◌, length, reverse, drop, sym, refl, ap, ◌∙◌, inl, inr, arith}
+use Rattle.std.proofs.lemmas.List.{length-append, length-set, nil_from_length, reverse-append}
+use Rattle.std.proofs.ByRecursion.{All-weaker, All-push}
+use Rattle.std.proofs.lemmas.Bool.{cases_order, lt-ltb, le-ltb, eq-eqb, ne_eqb}
 use Rattle.rows.specs.declared.Row.{Row}
-use Rattle.rows.specs.Rows.{SortedByKey, SortedFrom, smaller, put_all}
-use Rattle.rows.specs.Halving.{flat, pair_row, position}
-use Rattle.rows.specs.Numbers.{first_is}
-use Rattle.rows.proofs.Places.{length_flat, flat_append, take_flat, position_counts, found_has}
-use Rattle.rows.proofs.Splits.{Here, Away, split}
-use Rattle.merge.specs.Numbers.{left_after, numbers_after, greater_from, no_place, merge_rows}
+use Rattle.rows.specs.Rows.{SortedByKey, put_all}
+use Rattle.rows.specs.Halving.{flat}
+use Rattle.merge.specs.Numbers.{row_written, keeps, replaces, stepped, written, merging}
 use Rattle.merge.specs.declared.Left.{Left}
-use Rattle.merge.proofs.Orders.{Ends, none, one_more, ends, up_front, below_last, below_smaller, up_others, new_last, same_last, no_fewer}
+use Rattle.merge.proofs.Orders.{Ends, none, one_more, ends, Below, up_front, below_last, last_kept, last_added, last_replaced, no_fewer}
+use Rattle.merge.proofs.Turns.{keeps_more, copies_more, merging_none, merging_full}
+use Rattle.merge.proofs.Parts.{Fronts, same_rows, fronts_kept, fronts_front, last_key, last_row, written_behind}
 
-pub merging_last : (xs front : List (List ℕ)) (row : List ℕ) (left : Left) (m : List ℕ) → xs ≡ front ++ (row ∷ [])
-    → merge_rows (reverse (map pair_row xs)) left m
-    ≡ merge_rows (reverse (map pair_row front)) (left_after (pair_row row) left m) (numbers_after (pair_row row) left m)
-unfolding merge_rows
-merging_last xs front row left m e = rw (e, map-append, reverse-append) refl
-
-pub merging_none : (xs : List (List ℕ)) (left : Left) (m : List ℕ) → length xs ≡ 0 → merge_rows (reverse (map pair_row xs)) left m ≡ m
-unfolding merge_rows
-merging_none xs left m e = rw (nil_from_length xs e) refl
-
-merging_nothing : (left : Left) (m : List ℕ) → merge_rows [] left m ≡ m
-unfolding merge_rows
-merging_nothing left m = refl
-
-merging_more : (ss : List Row) (s : Row) (left : Left) (m : List ℕ)
-    → merge_rows (reverse (ss ++ (s ∷ []))) left m ≡ merge_rows (reverse ss) (left_after s left m) (numbers_after s left m)
-unfolding merge_rows
-merging_more ss s left m = rw (reverse-append ss (s ∷ [])) refl
-
--- a run read out of memory
-run_is : (m xs ys : List ℕ) (k n : ℕ) → take (k + n) m ≡ xs ++ ys → length xs ≡ k → take n (drop k m) ≡ ys
-run_is m xs ys k n e l = sym (drop-take k n m) ∙ (ap (drop k) e ∙ drop_at xs ys k l)
-
-abbrev left_of : ℕ → ℕ → Left
+abbrev pub left_of : ℕ → ℕ → Left
 left_of count total = record { count = count; total = total }
 
-abbrev Merged : List Row → List Row → Type 0
-Merged ss ds =
-    (m : List ℕ) → take (2 * length ds) m ≡ flat ds → 2 * length (put_all ss ds) ≤ length m
-    → merge_rows (reverse ss) (left_of (length ds) (length (put_all ss ds))) m ≡ flat (put_all ss ds) ++ drop (2 * length (put_all ss ds)) m
+-- rows that are sorted on both sides, and room for all of them
+pub record Ready (places : ℕ) (m : List ℕ) (ss ds : List Row) : Type 0 where
+  pub source_sorted : SortedByKey ss
+  pub destination_sorted : SortedByKey ds
+  pub count_is : places ≡ length (put_all ss ds)
+  pub fronts : Fronts ds m
+  pub room : 2 * places ≤ length m
 
--- one turn, by where the row comes: `front` are the rows up to those with greater keys
-module _ (ss : List Row) (s : Row) (ds before front behind : List Row) (again : Merged ss before) (m : List ℕ)
-    (stands : take (2 * length ds) m ≡ flat ds) (room : 2 * length (put_all (ss ++ (s ∷ [])) ds) ≤ length m)
-    (parts : ds ≡ front ++ behind) (starts : take (2 * length before) (flat front) ≡ flat before) (short : length before ≤ length front)
-    (is : put_all (ss ++ (s ∷ [])) ds ≡ put_all ss before ++ (s ∷ behind))
-    (at : position s.key (flat ds) ≡ length before)
-    (greater : greater_from s.key (left_of (length ds) (length (put_all (ss ++ (s ∷ [])) ds))) m ≡ length front)
-    (free : no_place s.key (left_of (length ds) (length (put_all (ss ++ (s ∷ [])) ds))) m ≡ false) where
-  size : length ds ≡ length front + length behind
-  size = ap length parts ∙ length-append front behind
+abbrev pub Merged : ℕ → List ℕ → List Row → List Row → Type 0
+Merged places m ss ds =
+    merging places (reverse ss) (left_of (length ds) places) m ≡ flat (put_all ss ds) ++ drop (2 * length (put_all ss ds)) m
 
-  all : length (put_all (ss ++ (s ∷ [])) ds) ≡ length (put_all ss before) + suc (length behind)
-  all = ap length is ∙ length-append (put_all ss before) (s ∷ behind)
+-- after a turn that wrote the row `r`, with `ss` and `ds` left of `ss'` and `ds'`
+module _ (places : ℕ) (m : List ℕ) (ss' ds' ss ds : List Row) (r : Row) (ready : Ready (suc places) m ss' ds') (is : put_all ss' ds' ≡ put_all ss ds ++ (r ∷ [])) where
+  places_are : places ≡ length (put_all ss ds)
+  places_are = omega (arith, ready.count_is, ap length is, length-append (put_all ss ds) (r ∷ []))
 
-  fewer : length before ≤ length (put_all ss before)
-  fewer = no_fewer ss before
+  still_ready : SortedByKey ss → SortedByKey ds → Fronts ds m → Ready places (row_written places r m) ss ds
+  still_ready us ud fronts = record {
+    source_sorted = us;
+    destination_sorted = ud;
+    count_is = places_are;
+    fronts = fronts_kept ds m fronts places r (omega (arith, places_are, no_fewer ss ds));
+    room = let h = ready.room in simp length-set (omega arith);
+  }
 
-  run : take (2 * length ds - 2 * length front) (drop (2 * length front) m) ≡ flat behind
-  run =
-      let e : 2 * length front + (2 * length ds - 2 * length front) ≡ 2 * length ds = omega (arith, size) in
-      run_is m (flat front) (flat behind) (2 * length front) (2 * length ds - 2 * length front)
-      (rw e (stands ∙ (ap flat parts ∙ flat_append front behind))) (length_flat front)
+  finish : Merged places (row_written places r m) ss ds
+      → merging places (reverse ss) (left_of (length ds) places) (row_written places r m) ≡ flat (put_all ss' ds') ++ drop (2 * length (put_all ss' ds')) m
+  finish i =
+      let h = ready.room in
+      let e = places_are in
+      i ∙ rw (is, e) (written_behind (put_all ss ds) r m (omega arith))
 
-  next : List ℕ
-  next = take (2 * length (put_all ss before)) m ++ (flat (s ∷ behind) ++ drop (2 * length (put_all (ss ++ (s ∷ [])) ds)) m)
+length_more : (xs : List Row) (x : Row) → length (xs ++ (x ∷ [])) ≡ suc (length xs)
+length_more xs x = omega (arith, length-append xs (x ∷ []))
 
-  next_is : numbers_after s (left_of (length ds) (length (put_all (ss ++ (s ∷ [])) ds))) m ≡ next
-  unfolding next
-  next_is =
-      let n : length (put_all (ss ++ (s ∷ [])) ds) - (length ds - length front) - 1 ≡ length (put_all ss before) = omega (arith, size, all) in
-      let e : 2 * length (put_all ss before) + 2 + (2 * length ds - 2 * length front) ≡ 2 * length (put_all (ss ++ (s ∷ [])) ds) = omega (arith, size, all) in
-      rw (free, greater, n, run, e) refl
+last_first : (ss : List Row) (s : Row) → reverse (ss ++ (s ∷ [])) ≡ s ∷ reverse ss
+last_first ss s = reverse-append ss (s ∷ [])
 
-  left_is : left_after s (left_of (length ds) (length (put_all (ss ++ (s ∷ [])) ds))) m ≡ left_of (length before) (length (put_all ss before))
-  left_is =
-      let n : length (put_all (ss ++ (s ∷ [])) ds) - (length ds - length front) - 1 ≡ length (put_all ss before) = omega (arith, size, all) in
-      rw (free, greater, n, stands, at) refl
+module _ (places : ℕ) (m : List ℕ) (again : (m : List ℕ) (ss ds : List Row) → Ready places m ss ds → Merged places m ss ds) (ss : List Row) (s : Row) where
+  -- the row to copy is written, and `ds` are left of `ds'`
+  copies : (ds' ds : List Row) → Ready (suc places) m (ss ++ (s ∷ [])) ds' → SortedByKey ds → Fronts ds m
+      → put_all (ss ++ (s ∷ [])) ds' ≡ put_all ss ds ++ (s ∷ [])
+      → merging places (reverse ss) (left_of (length ds) places) (row_written places s m)
+      ≡ flat (put_all (ss ++ (s ∷ [])) ds') ++ drop (2 * length (put_all (ss ++ (s ∷ [])) ds')) m
+  copies ds' ds ready ud fronts is =
+      let next = still_ready places m (ss ++ (s ∷ [])) ds' ss ds s ready is (up_front 0 ss (s ∷ []) ready.source_sorted) ud fronts in
+      finish places m (ss ++ (s ∷ [])) ds' ss ds s ready is (again _ ss ds next)
 
-  kept : length (take (2 * length (put_all ss before)) m) ≡ 2 * length (put_all ss before)
-  kept = length-take-le (2 * length (put_all ss before)) m (omega (arith, room, all))
+  below_source : (ds : List Row) → Ready (suc places) m (ss ++ (s ∷ [])) ds → Below s.key ss
+  below_source ds ready = below_last 0 ss s ready.source_sorted
 
-  next_stands : take (2 * length before) next ≡ flat before
-  unfolding next
-  next_stands =
-      let k = kept in
-      take-append-le (2 * length before) (take (2 * length (put_all ss before)) m) _ (omega (arith, fewer))
-      ∙ (take-take (2 * length before) (2 * length (put_all ss before)) m (omega (arith, fewer))
-      ∙ (sym (take-take (2 * length before) (2 * length ds) m (omega (arith, size, short)))
-      ∙ (ap (take (2 * length before)) (stands ∙ (ap flat parts ∙ flat_append front behind))
-      ∙ (take-append-le (2 * length before) (flat front) (flat behind) (omega (arith, length_flat front, short)) ∙ starts))))
+  -- a turn that copies, by what it leaves
+  module _ (ds' ds : List Row) (ready : Ready (suc places) m (ss ++ (s ∷ [])) ds') (ud : SortedByKey ds) (fronts : Fronts ds m)
+      (is : put_all (ss ++ (s ∷ [])) ds' ≡ put_all ss ds ++ (s ∷ []))
+      (next : stepped s.key (left_of (length ds') (suc places)) m ≡ left_of (length ds) places)
+      (greater : keeps s.key (left_of (length ds') (suc places)) m ≡ false) where
+    turn_copies : Merged (suc places) m (ss ++ (s ∷ [])) ds'
+    turn_copies =
+        let p : suc places - 1 ≡ places = omega arith in
+        let w : written s (left_of (length ds') (suc places)) m ≡ row_written places s m = rw (greater, p) refl in
+        rw (last_first ss s)
+        (copies_more s (left_of (length ds') (suc places)) m (reverse ss) (omega arith) greater ∙ rw (next, w) (copies ds' ds ready ud fronts is))
 
-  next_room : 2 * length (put_all ss before) ≤ length next
-  unfolding next
-  next_room = omega (arith, kept, length-append (take (2 * length (put_all ss before)) m) (flat (s ∷ behind) ++ drop (2 * length (put_all (ss ++ (s ∷ [])) ds)) m))
+  -- no row of the destination is left
+  adds_first : Ready (suc places) m (ss ++ (s ∷ [])) [] → Merged (suc places) m (ss ++ (s ∷ [])) []
+  adds_first ready =
+      let p : suc places - 1 ≡ places = omega arith in
+      turn_copies [] [] ready tt ready.fronts (last_added ss s [] (below_source [] ready) tt) (rw p refl) refl
 
-  next_rest : drop (2 * length (put_all ss before)) next ≡ flat (s ∷ behind) ++ drop (2 * length (put_all (ss ++ (s ∷ [])) ds)) m
-  unfolding next
-  next_rest = drop_at (take (2 * length (put_all ss before)) m) (flat (s ∷ behind) ++ drop (2 * length (put_all (ss ++ (s ∷ [])) ds)) m) (2 * length (put_all ss before)) kept
+  module _ (ds : List Row) (d : Row) (ready : Ready (suc places) m (ss ++ (s ∷ [])) (ds ++ (d ∷ []))) where
+    abbrev left : Left
+    left = left_of (length (ds ++ (d ∷ []))) (suc places)
 
-  first : merge_rows (reverse (ss ++ (s ∷ []))) (left_of (length ds) (length (put_all (ss ++ (s ∷ [])) ds))) m
-      ≡ merge_rows (reverse ss) (left_of (length before) (length (put_all ss before))) next
-  first = merging_more ss s _ m ∙ rw (left_is, next_is) refl
+    last_is : length (ds ++ (d ∷ [])) - 1 ≡ length ds
+    last_is = let e = length_more ds d in omega arith
 
-  pub turn : merge_rows (reverse (ss ++ (s ∷ []))) (left_of (length ds) (length (put_all (ss ++ (s ∷ [])) ds))) m
-      ≡ flat (put_all (ss ++ (s ∷ [])) ds) ++ drop (2 * length (put_all (ss ++ (s ∷ [])) ds)) m
-  turn =
-      first ∙ (again next next_stands next_room
-      ∙ (rw next_rest (sym (append_assoc (flat (put_all ss before)) (flat (s ∷ behind)) (drop (2 * length (put_all (ss ++ (s ∷ [])) ds)) m)))
-      ∙ ap (λ l. l ++ drop (2 * length (put_all (ss ++ (s ∷ [])) ds)) m) (sym (ap flat is ∙ flat_append (put_all ss before) (s ∷ behind)))))
+    some : ltb 0 (length (ds ++ (d ∷ []))) ≡ true
+    some = lt-ltb 0 (length (ds ++ (d ∷ []))) (omega (arith, length_more ds d))
 
-take_all : (rs : List Row) → take (2 * length rs) (flat rs) ≡ flat rs
-take_all rs = ap (λ n. take n (flat rs)) (sym (length_flat rs)) ∙ take-length (flat rs)
+    keeps_is : keeps s.key left m ≡ ltb s.key d.key
+    keeps_is = rw (some, last_is, last_key ds d m ready.fronts) refl
 
--- where the key is new, and where a row has it
-module _ (ss : List Row) (s : Row) (ds : List Row) (again : (xs : List Row) → SortedByKey xs → Merged ss xs) (us : SortedByKey (ss ++ (s ∷ []))) (ud : SortedByKey ds)
-    (m : List ℕ) (stands : take (2 * length ds) m ≡ flat ds) (room : 2 * length (put_all (ss ++ (s ∷ [])) ds) ≤ length m) where
-  abbrev Turn : Type 0
-  Turn = merge_rows (reverse (ss ++ (s ∷ []))) (left_of (length ds) (length (put_all (ss ++ (s ∷ [])) ds))) m
-      ≡ flat (put_all (ss ++ (s ∷ [])) ds) ++ drop (2 * length (put_all (ss ++ (s ∷ [])) ds)) m
+    replaces_is : replaces s.key left m ≡ eqb s.key d.key
+    replaces_is = rw (some, last_is, last_key ds d m ready.fronts) refl
 
-  below_ss : (xs : List Row) → AllByRecursion (λ x. x.key < s.key) ss
-  below_ss xs = below_last 0 ss s us
+    one_less : suc places - 1 ≡ places
+    one_less = omega arith
 
-  smaller_first : (before others : List Row) → ds ≡ before ++ others → smaller s.key ds ≡ length before
-      → AllByRecursion (λ x. x.key < s.key) before × SortedFrom s.key others
-  smaller_first before others e n = (
-    rw (n, e, take_at before others (length before) refl) at (below_smaller s.key 0 ds ud),
-    rw (n, e, drop_at before others (length before) refl) at (up_others s.key 0 ds ud),
-  )
+    below_s : Below s.key ss
+    below_s = below_source (ds ++ (d ∷ [])) ready
 
-  is_new : Away s.key ds → Turn
-  is_new a =
-      let o = smaller_first a.before a.behind a.rows_are a.smaller_is in
-      let is : put_all (ss ++ (s ∷ [])) ds ≡ put_all ss a.before ++ (s ∷ a.behind) =
-      ap (put_all (ss ++ (s ∷ []))) a.rows_are ∙ new_last ss s a.before a.behind (below_ss ds) o.0 (above a.behind a.next_is o.1) in
-      let at = position_counts s.key ds ud ∙ a.smaller_is in
-      let none = found_has s.key ds ud ∙ a.has in
-      let n = ap length is ∙ length-append (put_all ss a.before) (s ∷ a.behind) in
-      let size = ap length a.rows_are ∙ length-append a.before a.behind in
-      let more : length ds ≡ length (put_all (ss ++ (s ∷ [])) ds) → ⊥ = λ e. let f = no_fewer ss a.before in omega arith in
-      turn ss s ds a.before a.before a.behind (again a.before (up_front 0 a.before a.behind (rw a.rows_are at ud))) m stands room
-      a.rows_are (take_all a.before) (omega arith) is at (rw (stands, none, at) refl) (rw (stands, none, ne_eqb _ _ more) refl)
-    where
-      above : (ys : List Row) → first_is s.key ys ≡ false → SortedFrom s.key ys → SortedFrom (suc s.key) ys
-      above [] e u = tt
-      above (y ∷ ys) e u = let ne = eqb-false y.key s.key e in elim (cases_lt s.key y.key) [ inl l ↦ (omega arith, u.1) | inr l ↦ absurd (ne (omega (arith, u.0))) ]
+    below_d : Below d.key ds
+    below_d = below_last 0 ds d ready.destination_sorted
 
-  is_there : Here s.key ds → Turn
-  is_there a =
-      let o = smaller_first a.before (a.row ∷ a.behind) a.rows_are a.smaller_is in
-      let is : put_all (ss ++ (s ∷ [])) ds ≡ put_all ss a.before ++ (s ∷ a.behind) =
-      ap (put_all (ss ++ (s ∷ []))) a.rows_are ∙ same_last ss s a.before a.behind (below_ss ds) o.0 a.row a.key_is (rw a.key_is at o.1.1) in
-      let at = position_counts s.key ds ud ∙ a.smaller_is in
-      let some = found_has s.key ds ud ∙ a.has in
-      let size = length-append a.before (a.row ∷ []) in
-      let front = a.before ++ (a.row ∷ []) in
-      let parts : ds ≡ front ++ a.behind = a.rows_are ∙ sym (append_assoc a.before (a.row ∷ []) a.behind) in
-      let one : length a.before + 1 ≡ length front = omega (arith, size) in
-      turn ss s ds a.before front a.behind (again a.before (up_front 0 a.before (a.row ∷ a.behind) (rw a.rows_are at ud))) m stands room
-      parts (rw (flat_append a.before (a.row ∷ [])) (take_flat a.before (flat (a.row ∷ [])))) (omega arith) is at (rw (stands, some, at) one) (rw (stands, some) refl)
+    front_sorted : SortedByKey ds
+    front_sorted = up_front 0 ds (d ∷ []) ready.destination_sorted
 
-by_ends : (n : ℕ) → ((ss : List Row) → suc (length ss) ≡ n → SortedByKey ss → (ds : List Row) → SortedByKey ds → Merged ss ds)
-    → {ss : List Row} → Ends ss → length ss ≡ n → SortedByKey ss → (ds : List Row) → SortedByKey ds → Merged ss ds
-by_ends n again none few us ds ud m stands room =
-    merging_nothing _ m ∙ (sym (take-append-drop (2 * length ds) m) ∙ ap (λ l. l ++ drop (2 * length ds) m) stands)
-by_ends n again (one_more ss s) few us ds ud m stands room =
-    let less : suc (length ss) ≡ n = omega (arith, few, length-append ss (s ∷ [])) in
-    let next = λ (xs : List Row) (u : SortedByKey xs). again ss less (up_front 0 ss (s ∷ []) us) xs u in
-    elim (split s.key ds ud) [
-      | inl h ↦ is_there ss s ds next us ud m stands room h
-      | inr a ↦ is_new ss s ds next us ud m stands room a
+    front_fronts : Fronts ds m
+    front_fronts = fronts_front ds (d ∷ []) m ready.fronts
+
+    row_kept : s.key < d.key → Merged (suc places) m (ss ++ (s ∷ [])) (ds ++ (d ∷ []))
+    row_kept l =
+        let below = All-push (λ x. x.key < d.key) ss s (All-weaker (λ x. x.key < s.key) (λ x. x.key < d.key) (λ x h. omega arith) ss below_s) l in
+        let is = last_kept (ss ++ (s ∷ [])) ds d below in
+        let k : keeps s.key left m ≡ true = keeps_is ∙ lt-ltb s.key d.key l in
+        let next : stepped s.key left m ≡ left_of (length ds) places = rw (k, last_is, one_less) refl in
+        let w : written s left m ≡ row_written places d m = rw (k, last_is, one_less) (ap (λ r. row_written places r m) (last_row ds d m ready.fronts)) in
+        let ready_next = still_ready places m (ss ++ (s ∷ [])) (ds ++ (d ∷ [])) (ss ++ (s ∷ [])) ds d ready is ready.source_sorted front_sorted front_fronts in
+        let rest = finish places m (ss ++ (s ∷ [])) (ds ++ (d ∷ [])) (ss ++ (s ∷ [])) ds d ready is (again _ (ss ++ (s ∷ [])) ds ready_next) in
+        rw (last_first ss s)
+        (keeps_more s left m (reverse ss) (omega arith) k ∙ rw (next, w, ← last_first ss s) rest)
+
+    row_replaced : s.key ≡ d.key → Merged (suc places) m (ss ++ (s ∷ [])) (ds ++ (d ∷ []))
+    row_replaced e =
+        let k : keeps s.key left m ≡ false = keeps_is ∙ le-ltb s.key d.key (omega arith) in
+        let r : replaces s.key left m ≡ true = replaces_is ∙ eq-eqb s.key d.key e in
+        turn_copies (ds ++ (d ∷ [])) ds ready front_sorted front_fronts (last_replaced ss s ds below_s (rw (sym e) at below_d) d e)
+        (rw (k, r, last_is, one_less) refl) k
+
+    row_added : d.key < s.key → Merged (suc places) m (ss ++ (s ∷ [])) (ds ++ (d ∷ []))
+    row_added l =
+        let below = All-push (λ x. x.key < s.key) ds d (All-weaker (λ x. x.key < d.key) (λ x. x.key < s.key) (λ x h. omega arith) ds below_d) l in
+        let k : keeps s.key left m ≡ false = keeps_is ∙ le-ltb s.key d.key (omega arith) in
+        let r : replaces s.key left m ≡ false = replaces_is ∙ ne_eqb s.key d.key (λ e. omega arith) in
+        turn_copies (ds ++ (d ∷ [])) (ds ++ (d ∷ [])) ready ready.destination_sorted ready.fronts (last_added ss s (ds ++ (d ∷ [])) below_s below)
+        (rw (k, r, one_less) refl) k
+
+step : (places : ℕ) (m : List ℕ) → ((m : List ℕ) (ss ds : List Row) → Ready places m ss ds → Merged places m ss ds)
+    → {ss ds : List Row} → Ends ss → Ends ds → Ready (suc places) m ss ds → Merged (suc places) m ss ds
+step places m again {ds = ds} none e ready = merging_none (suc places) (left_of (length ds) (suc places)) m ∙ sym (same_rows ds m ready.fronts)
+step places m again (one_more ss s) none ready = adds_first places m again ss s ready
+step places m again (one_more ss s) (one_more ds d) ready =
+    elim (cases_order s.key d.key) [
+      | inl e ↦ row_replaced places m again ss s ds d ready e
+      | inr (inl l) ↦ row_kept places m again ss s ds d ready l
+      | inr (inr l) ↦ row_added places m again ss s ds d ready l
     ]
 
-merges_all : (n : ℕ) (ss : List Row) → length ss ≡ n → SortedByKey ss → (ds : List Row) → SortedByKey ds → Merged ss ds
-merges_all zero ss few = by_ends zero (λ xs e. absurd (omega arith)) (ends ss) few
-merges_all (suc n) ss few = by_ends (suc n) (λ xs e. merges_all n xs (omega arith)) (ends ss) few
-
-pub merges : (ss ds : List Row) → SortedByKey ss → SortedByKey ds → Merged ss ds
-merges ss ds us ud = merges_all (length ss) ss refl us ds ud
+pub merges : (places : ℕ) (m : List ℕ) (ss ds : List Row) → Ready places m ss ds → Merged places m ss ds
+merges zero m ss ds ready =
+    let e = nil_from_length (put_all ss ds) (sym ready.count_is) in
+    merging_full 0 (reverse ss) (left_of (length ds) 0) m refl ∙ rw e refl
+merges (suc places) m ss ds ready = step places m (merges places) (ends ss) (ends ds) ready

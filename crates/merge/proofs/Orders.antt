@@ -1,13 +1,14 @@
 -- Sorted rows put one after another: which come first, and which last.
-use Rattle.std.proofs.Common.{◌≡◌, ℕ, suc, ◌<◌, ◌≤◌, eqb, ltb, leb, List, [], ◌∷◌, ◌++◌, length, take, drop, refl, ap, ◌∙◌, inl, inr, arith}
+use Rattle.std.proofs.Common.{◌≡◌, ℕ, suc, ◌<◌, ◌≤◌, eqb, ltb, leb, List, [], ◌∷◌, ◌++◌, length, take, sym, refl, ap, ◌∙◌, inl, inr, arith}
 use Rattle.std.specs.List.{AllByRecursion}
 use Rattle.std.proofs.ByRecursion.{All-weaker}
+use Rattle.std.proofs.lemmas.List.{append-nil}
 use Rattle.std.proofs.lemmas.Bool.Decides.{nat_tests}
 use Rattle.std.proofs.lemmas.Bool.{cases_Bool, and_parts, ltb-true, ltb-false, leb-true, lt-ltb, le-ltb, eq-eqb, ne_eqb}
 use Rattle.rows.specs.declared.Row.{Row}
 use Rattle.rows.specs.declared.KeyRange.{KeyRange}
 use Rattle.rows.specs.Rows.{SortedFrom, smaller, put, put_all, has_key, in_range, rows_in, also_in}
-use Rattle.rows.proofs.Orders.{smaller_none, up_lower, all_put_all}
+use Rattle.rows.proofs.Orders.{smaller_none, all_put_all}
 
 -- a list from behind
 pub data Ends : List Row → Type 0 where
@@ -49,16 +50,6 @@ below_smaller k low (x ∷ xs) u =
           rw (e, smaller_none k (suc x.key) xs (omega arith) u.1) tt
     ]
 
-pub up_others : (k low : ℕ) (rs : List Row) → SortedFrom low rs → SortedFrom k (drop (smaller k rs) rs)
-up_others k low [] u = tt
-up_others k low (x ∷ xs) u =
-    elim (cases_Bool (ltb x.key k)) [
-      | inl e ↦ rw e (up_others k (suc x.key) xs u.1)
-      | inr e ↦
-          let h = ltb-false x.key k e in
-          rw (e, smaller_none k (suc x.key) xs (omega arith) u.1) (omega arith, u.1)
-    ]
-
 -- a put among rows with greater ones behind them
 put_front : (r : Row) (xs bs : List Row) → SortedFrom (suc r.key) bs → put r (xs ++ bs) ≡ put r xs ++ bs
 put_front r [] [] u = refl
@@ -69,7 +60,7 @@ put_front r (x ∷ xs) bs u =
       | inr e ↦ rw e (elim (cases_Bool (eqb x.key r.key)) [ inl f ↦ rw f refl | inr f ↦ rw f refl ])
     ]
 
-put_all_front : (ss xs bs : List Row) → AllByRecursion (λ r. SortedFrom (suc r.key) bs) ss → put_all ss (xs ++ bs) ≡ put_all ss xs ++ bs
+pub put_all_front : (ss xs bs : List Row) → AllByRecursion (λ r. SortedFrom (suc r.key) bs) ss → put_all ss (xs ++ bs) ≡ put_all ss xs ++ bs
 put_all_front [] xs bs a = refl
 put_all_front (s ∷ ss) xs bs a = rw (put_front s xs bs a.0) (put_all_front ss (put s xs) bs a.1)
 
@@ -78,26 +69,33 @@ put_behind : (r : Row) (xs ys : List Row) → Below r.key xs → put r (xs ++ ys
 put_behind r [] ys b = refl
 put_behind r (x ∷ xs) ys b = rw (lt-ltb x.key r.key b.0) (ap (λ l. x ∷ l) (put_behind r xs ys b.1))
 
+pub put_all_behind : (ss xs ys : List Row) → AllByRecursion (λ r. Below r.key xs) ss → put_all ss (xs ++ ys) ≡ xs ++ put_all ss ys
+put_all_behind [] xs ys a = refl
+put_all_behind (s ∷ ss) xs ys a = rw (put_behind s xs ys a.0) (put_all_behind ss xs (put s ys) a.1)
+
 put_all_last : (ss : List Row) (s : Row) (xs : List Row) → put_all (ss ++ (s ∷ [])) xs ≡ put s (put_all ss xs)
 put_all_last [] s xs = refl
 put_all_last (r ∷ rs) s xs = put_all_last rs s (put r xs)
 
--- the last of some rows comes behind all that come among smaller ones
-module _ (ss : List Row) (s : Row) (before behind : List Row) (bs : Below s.key ss) (bb : Below s.key before) where
-  all_below : Below s.key (put_all ss before)
-  all_below = all_put_all (λ x. x.key < s.key) ss before bs bb
+-- which row comes last, and what stands before it
+pub last_kept : (ss ds : List Row) (d : Row) → Below d.key ss → put_all ss (ds ++ (d ∷ [])) ≡ put_all ss ds ++ (d ∷ [])
+last_kept ss ds d b = put_all_front ss ds (d ∷ []) (All-weaker _ _ (λ x l. (omega arith, tt)) ss b)
 
-  front : (ys : List Row) → SortedFrom s.key ys → put_all (ss ++ (s ∷ [])) (before ++ ys) ≡ put_all ss before ++ put s ys
-  front ys u =
-      put_all_last ss s (before ++ ys)
-      ∙ (ap (put s) (put_all_front ss before ys (All-weaker (λ x. x.key < s.key) (λ r. SortedFrom (suc r.key) ys) (λ r l. up_lower (suc r.key) s.key ys (omega arith) u) ss bs))
-      ∙ put_behind s (put_all ss before) ys all_below)
+module _ (ss : List Row) (s : Row) (ds : List Row) (bs : Below s.key ss) (bd : Below s.key ds) where
+  all_below : Below s.key (put_all ss ds)
+  all_below = all_put_all (λ x. x.key < s.key) ss ds bs bd
 
-  pub new_last : SortedFrom (suc s.key) behind → put_all (ss ++ (s ∷ [])) (before ++ behind) ≡ put_all ss before ++ (s ∷ behind)
-  new_last u = front behind (up_lower s.key (suc s.key) behind (omega arith) u) ∙ ap (λ l. put_all ss before ++ l) (put_front s [] behind u)
+  put_last : (ys : List Row) → put s (put_all ss ds ++ ys) ≡ put_all ss ds ++ put s ys
+  put_last ys = put_behind s (put_all ss ds) ys all_below
 
-  pub same_last : (d : Row) → d.key ≡ s.key → SortedFrom (suc s.key) behind → put_all (ss ++ (s ∷ [])) (before ++ (d ∷ behind)) ≡ put_all ss before ++ (s ∷ behind)
-  same_last d e u = front (d ∷ behind) (omega arith, rw e u) ∙ ap (λ l. put_all ss before ++ l) (rw (le-ltb d.key s.key (omega arith), eq-eqb d.key s.key e) refl)
+  pub last_added : put_all (ss ++ (s ∷ [])) ds ≡ put_all ss ds ++ (s ∷ [])
+  last_added = put_all_last ss s ds ∙ (ap (put s) (sym (append-nil (put_all ss ds))) ∙ put_last [])
+
+  pub last_replaced : (d : Row) → s.key ≡ d.key → put_all (ss ++ (s ∷ [])) (ds ++ (d ∷ [])) ≡ put_all ss ds ++ (s ∷ [])
+  last_replaced d e =
+      put_all_last ss s (ds ++ (d ∷ []))
+      ∙ (ap (put s) (last_kept ss ds d (rw e at bs))
+      ∙ (put_last (d ∷ []) ∙ ap (λ l. put_all ss ds ++ l) (rw (le-ltb d.key s.key (omega arith), eq-eqb d.key s.key (sym e)) refl)))
 
 -- a put takes no row away
 longer : (r : Row) (xs : List Row) → length xs ≤ length (put r xs)

@@ -1,14 +1,14 @@
 -- Writes one after the other are one write of all their bytes.
-use Rattle.std.proofs.Common.{◌≡◌, ℕ, ◌+◌, ◌<◌, List, [], ◌∷◌, ◌++◌, length, get_or, take, drop, Result, Ok, Err, refl, sym, ap, ◌∙◌, subst, arith, append-nil, length-append}
+use Rattle.std.proofs.Common.{◌≡◌, ℕ, ◌+◌, ◌<◌, List, [], ◌∷◌, ◌++◌, length, get_or, take, drop, Option, None, Some, false, Result, Ok, Err, refl, sym, ap, ◌∙◌, subst, arith, append-nil, length-append}
 use Rattle.std.proofs.lemmas.List.{take-append-drop, take-append-le, take_more}
 use Rattle.std.proofs.Math.Seq.{take-append-add}
 use Rattle.std.proofs.KnownBytes.{Appends-nil, Appends-trans}
-use Rattle.std.specs.Io.KnownBytes.{Appends}
+use Rattle.std.specs.Io.KnownBytes.{Appends, WriteAppends}
 use Rattle.std.proofs.lemmas.Grind.{flat_map-append}
 use Rattle.std.specs.Result.{IsErr}
 use Rattle.output.specs.declared.Piece.{Piece}
 use Rattle.std.specs.List.{flat_map}
-use Rattle.output.specs.Output.{OutputState, WritesAll, WritesPart, Writes, piece_bytes, bytes_from, bytes_of}
+use Rattle.output.specs.Output.{OutputState, WritesAll, WritesPart, Writes, piece_bytes, bytes_from, bytes_of, taken}
 
 pub nothing_written : (a : OutputState) → WritesAll a a []
 nothing_written a = record { appended = Appends-nil a.contents; kept = refl; intact = λ _. refl }
@@ -69,3 +69,17 @@ pub around : (i : ℕ) (pieces : List Piece) → bytes_of (take i pieces) ++ byt
 around i pieces =
     rw (bytes_of-is (take i pieces), bytes_of-is (drop i pieces), bytes_of-is pieces)
     (sym (flat_map-append piece_bytes (take i pieces) (drop i pieces)) ∙ ap (flat_map piece_bytes) (take-append-drop i pieces))
+
+-- a write that took some of the bytes, or failed and took none
+some_first : {E : Type 0} (first : Result ℕ E) (old new : Option (List ℕ)) (bytes : List ℕ) → WriteAppends old new first bytes → Appends old new (take (taken first) bytes)
+some_first (Ok n) old new bytes w = w
+some_first (Err e) None new bytes w = tt
+some_first (Err e) (Some x) None bytes w = absurd w
+some_first (Err e) (Some x) (Some y) bytes w = w ∙ sym (append-nil x)
+
+-- and what was written after it
+pub first_then : {X E F : Type 0} (first : Result ℕ E) (r : Result X F) (a b c : OutputState) (bytes : List ℕ) → WriteAppends a.contents b.contents first bytes → b.failed ≡ a.failed → a.failed ≡ false →
+    Writes b c r (drop (taken first) bytes) → Writes a c r bytes
+first_then first r a b c bytes w kept works rest =
+    subst (Writes a c r) (take-append-drop (taken first) bytes)
+    (all_then r a b c _ _ (record { appended = some_first first a.contents b.contents bytes w; kept = kept; intact = λ f. absurd (cc) }) rest)

@@ -53,3 +53,8 @@ pub record AppendsPart (old new : Option (List ℕ)) (bytes : List ℕ) : Type 0
   pub count : ℕ
   pub fewer : count < length bytes
   pub appended : Appends old new (take count bytes)
+
+-- how many bytes a write took
+abbrev pub taken : {E : Type 0} → Result ℕ E → ℕ
+taken (Ok count) = count
+taken (Err e) = 0

@@ -1,10 +1,10 @@
 //! Text and numbers written to a writer piece by piece: all of them, or a beginning where the writer fails.
 #![tactic(auto)]
 
-ghost use Rattle.std.specs.Prelude.{◌≡◌, OnOk, OnErr, false};
+ghost use Rattle.std.specs.Prelude.{◌≡◌, ◌<◌, ◌≤◌, ◌++◌, decimal, length, drop, IfSome, OnOk, OnErr, false};
 ghost use Rattle.std.specs.Io.{WritesAtMost};
 ghost use Rattle.std.specs.Io.KnownBytes.{Appends, WriteAppends};
-ghost use Rattle.output.specs.Output.{OutputState, AppendsPart, Writes, Flushes, piece_bytes, bytes_of};
+ghost use Rattle.output.specs.Output.{OutputState, AppendsPart, Writes, Flushes, piece_bytes, bytes_of, taken};
 
 #[cfg(test)]
 mod tests;
@@ -20,6 +20,12 @@ pub enum Piece<'a> {
     /// A number in decimal.
     Number(u128),
 }
+
+// Room to gather the pieces of a write: those of a row, and of most lines.
+const ROOM: usize = 128;
+
+// The digits of the largest number of 64 bits.
+const DIGITS: usize = 20;
 
 /// A writer, and whether a write to it has failed. After a failure nothing more is written.
 #[derive(Drop)]
@@ -45,14 +51,25 @@ impl<W: Write> Output<W> {
         }
     }
 
+    /// The writer, which holds what was written to it.
+    pub fn into_inner(self) -> W
+        ensures { W.contents result ≡ self.contents }
+    {
+        let Output { writer, .. } = self;
+        writer
+    }
+
     /// Writes the pieces one after the other.
+    // Inlined down to each piece, so that texts of a known length are copied as such.
+    #[inline(always)]
     pub fn write(&mut self, pieces: &[Piece]) -> io::Result<()>
         ensures { Writes self.old self.new result (bytes_of pieces.now) }
     {
-        for piece in pieces {
-            self.write_piece(*piece)?;
+        let mut room = [0; ROOM];
+        match gather(&mut room, pieces) {
+            Some(start) => self.write_bytes(&room[start..]),
+            None => self.write_pieces(pieces),
         }
-        Ok(())
     }
 
     /// Flushes the writer.
@@ -64,6 +81,19 @@ impl<W: Write> Output<W> {
         result
     }
 
+    // Each piece by itself, where there is no room for all of them.
+    #[inline(always)]
+    fn write_pieces(&mut self, pieces: &[Piece]) -> io::Result<()>
+        ensures { Writes self.old self.new result (bytes_of pieces.now) }
+    {
+        for piece in pieces {
+            self.write_piece(*piece)?;
+        }
+        Ok(())
+    }
+
+    #[cold]
+    #[inline(never)]
     fn write_piece(&mut self, piece: Piece) -> io::Result<()>
         ensures { Writes self.old self.new result (piece_bytes piece.entry) }
     {
@@ -76,6 +106,7 @@ impl<W: Write> Output<W> {
         }
     }
 
+    #[inline(always)]
     fn write_bytes(&mut self, bytes: &[u8]) -> io::Result<()>
         ensures { Writes self.old self.new result bytes.now }
     {
@@ -85,9 +116,86 @@ impl<W: Write> Output<W> {
         if self.failed {
             return Err(ErrorKind::Other.into());
         }
-        let result = write_all(&mut self.writer, bytes);
+        let first = self.writer.write(bytes);
+        match first {
+            Ok(count) if count == bytes.len() => Ok(()),
+            _ => self.write_rest(first, bytes),
+        }
+    }
+
+    // What a first write did not take.
+    #[cold]
+    #[inline(never)]
+    fn write_rest(&mut self, first: io::Result<usize>, bytes: &[u8]) -> io::Result<()>
+        requires works { self.old.failed ≡ false }
+        requires rest { taken first < length bytes.now }
+        ensures { Writes self.old self.new result (drop (taken first) bytes.now) }
+    {
+        let result = write_on(&mut self.writer, first, bytes);
         self.failed = result.is_err();
         result
+    }
+}
+
+// Gathers the pieces at the end of the room, the last one first, since a number's digits are made in that order.
+// Gives where they start, or none where they don't fit.
+#[inline(always)]
+fn gather(room: &mut [u8], pieces: &[Piece]) -> Option<usize>
+    ensures within { IfSome result (λ start. start ≤ length room.new) }
+    ensures gathered { IfSome result (λ start. drop start room.new ≡ bytes_of pieces.now) }
+{
+    let mut start = room.len();
+    let mut left = pieces.len();
+    while left > 0 {
+        left -= 1;
+        start = put_before(room, start, pieces[left])?;
+    }
+    Some(start)
+}
+
+// Puts a piece before what stands from `end` on, and gives where it starts, or none where it doesn't fit there.
+#[inline(always)]
+fn put_before(room: &mut [u8], end: usize, piece: Piece) -> Option<usize>
+    requires { end ≤ length room.old }
+    ensures within { IfSome result (λ start. start ≤ length room.new) }
+    ensures put { IfSome result (λ start. drop start room.new ≡ piece_bytes piece.entry ++ drop end room.old) }
+{
+    match piece {
+        Piece::Text(text) => {
+            let start = end.checked_sub(text.len())?;
+            room[start..end].copy_from_slice(text.as_bytes());
+            Some(start)
+        }
+        Piece::Number(number) => put_number_before(room, end, u64::try_from(number).ok()?),
+    }
+}
+
+// Not inlined, so that the loop over a caller's pieces is short enough to be unrolled.
+#[inline(never)]
+fn put_number_before(room: &mut [u8], end: usize, number: u64) -> Option<usize>
+    requires { end ≤ length room.old }
+    ensures within { IfSome result (λ start. start ≤ length room.new) }
+    ensures put { IfSome result (λ start. drop start room.new ≡ decimal number ++ drop end room.old) }
+{
+    if end < DIGITS {
+        return None;
+    }
+    Some(itoa::write_digits(number, room, end))
+}
+
+// What a first write did not take, where it may go on.
+fn write_on<W: Write>(writer: &mut W, first: io::Result<usize>, bytes: &[u8]) -> io::Result<()>
+    requires { taken first < length bytes.now }
+    ensures all { OnOk result
+        (Appends (W.contents writer.old) (W.contents writer.new) (drop (taken first) bytes.now)) }
+    ensures part { OnErr result
+        (AppendsPart (W.contents writer.old) (W.contents writer.new) (drop (taken first) bytes.now)) }
+{
+    match first {
+        Ok(0) => Err(ErrorKind::WriteZero.into()),
+        Ok(count) => write_all(writer, &bytes[count..]),
+        Err(error) if error.kind() == ErrorKind::Interrupted => write_all(writer, bytes),
+        Err(error) => Err(error),
     }
 }
 

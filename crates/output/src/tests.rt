@@ -20,6 +20,25 @@ fn writes_pieces(rt: HostRuntime) -> Result<(), Fail> {
     Ok(())
 }
 
+// More than is gathered for one write.
+#[test]
+fn writes_long_texts(rt: HostRuntime) -> Result<(), Fail> {
+    let line = "0123456789012345678901234567890123456789012345678901234567890123456789\n";
+    let mut out = Output::new(Vec::new(rt.alloc()));
+    out.write(&[Piece::Number(1), Piece::Text(line), Piece::Text(line)])?;
+    let text = out.into_inner();
+    assert!(rt;
+        text.as_slice()
+            == concat!(
+                "1",
+                "0123456789012345678901234567890123456789012345678901234567890123456789\n",
+                "0123456789012345678901234567890123456789012345678901234567890123456789\n"
+            )
+            .as_bytes()
+    );
+    Ok(())
+}
+
 #[test]
 fn writes_a_beginning(rt: HostRuntime) -> Result<(), Fail> {
     let mut room = [b'.'; 12];

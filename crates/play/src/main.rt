@@ -3,7 +3,7 @@
 
 use command_line::{Program, Stop};
 use output::Output;
-use std::io::LineWriter;
+use std::io::{BufWriter, IsTerminal, LineWriter, Write};
 use std::process::ExitCode;
 use trace_player::MEMORY;
 
@@ -23,11 +23,23 @@ fn main(rt: HostRuntime) -> ExitCode {
 fn play(rt: &HostRuntime) -> Result<(), Stop> {
     let words = PLAY.words(rt, &mut rt.stdout())?;
     let bytes = command_line::read(rt, command_line::file_of(words.as_slice())?)?;
+    let stdout = rt.stdout();
+    // At a terminal a line goes out as soon as it is made.
+    if stdout.is_terminal() {
+        play_to(LineWriter::new(rt.alloc(), stdout)?, bytes.as_slice())
+    } else {
+        play_to(BufWriter::new(rt.alloc(), stdout)?, bytes.as_slice())
+    }
+}
+
+fn play_to<W: Write + Drop>(writer: W, bytes: &[u8]) -> Result<(), Stop> {
     let mut memory = [0; MEMORY];
-    // A line goes out as soon as it is made.
-    let mut out = Output::new(LineWriter::new(rt.alloc(), rt.stdout())?);
-    match trace_player::play(&mut out, &mut memory, bytes.as_slice())? {
+    let mut out = Output::new(writer);
+    let end = trace_player::play(&mut out, &mut memory, bytes)?;
+    // All lines go out before a refusal is told.
+    out.flush()?;
+    match end {
         None => Ok(()),
-        Some(refusal) => Err(Stop::at(refusal, bytes.as_slice())),
+        Some(refusal) => Err(Stop::at(refusal, bytes)),
     }
 }

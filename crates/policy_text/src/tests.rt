@@ -100,6 +100,32 @@ fn shows_room_for_one(rt: HostRuntime) -> Result<(), Fail> {
 }
 
 #[test]
+fn gives_texts(rt: HostRuntime) -> Result<(), Fail> {
+    let policy = one()?;
+    let table = table(rt.alloc(), &policy)?;
+    assert!(rt;
+        table.as_str()
+            == concat!(
+                "user 0 sees 0, writes in 0\n",
+                "compartment 0 has room for 1 row, which may flow to 0\n"
+            )
+    );
+    let graph = graph(rt.alloc(), &policy)?;
+    assert!(rt;
+        graph.as_str()
+            == concat!(
+                "digraph policy {\n",
+                "    \"user 0\";\n",
+                "    \"user 0\" -> \"compartment 0\";\n",
+                "    \"compartment 0\" -> \"user 0\" [style=dashed];\n",
+                "    \"compartment 0\" [shape=box];\n",
+                "}\n"
+            )
+    );
+    Ok(())
+}
+
+#[test]
 fn writes_a_beginning(rt: HostRuntime) -> Result<(), Fail> {
     let policy = one()?;
     let mut room = [b'.'; 20];

@@ -31,6 +31,10 @@ module _ {X : Type 0} (word : X → List ℕ) where
   pub begin : (a : OutputState) (xs : List X) → Going a a [] xs (join_by word (codes " ") xs)
   begin a xs = record { done = []; written = nothing_written a; all = led_first xs }
 
+  -- where each has a blank before it
+  pub begin_behind : (a : OutputState) (xs : List X) → Going a a (codes " ") xs (flat_map (λ y. codes " " ++ word y) xs)
+  begin_behind a xs = record { done = []; written = nothing_written a; all = led_next xs }
+
   pub go_on : {a b c : OutputState} {blank : List ℕ} {x : X} {xs : List X} {whole : List ℕ} → Going a b blank (x ∷ xs) whole →
       WritesAll b c (blank ++ word x) → Going a c (codes " ") xs whole
   go_on {a} {b} {c} {blank} {x} {xs} g w =

@@ -2,7 +2,8 @@
 ghost use Rattle.std.specs.Prelude.{◌≡◌, map, drop};
 ghost use Rattle.output.specs.Output.{Writes};
 ghost use Rattle.query.specs.AnswerRows.{read_answer};
-ghost use Rattle.response_text.specs.Lines.{answer_bytes, outcome_bytes, total_bytes};
+ghost use Rattle.model.specs.Model.{answered};
+ghost use Rattle.response_text.specs.Lines.{answer_bytes, line, total_bytes};
 ghost use Rattle.rows.specs.Halving.{pair_row, rows_of};
 
 use super::lists::{write_list, write_lists};
@@ -10,16 +11,23 @@ use output::{Output, Piece};
 use query::{AnswerSummary, HEADER, Outcome};
 use std::io::{self, Write};
 
+// The line of an answer.
 pub(crate) fn write_outcome<W: Write>(
     out: &mut Output<W>,
+    user: usize,
     outcome: Outcome,
     row: &[u64],
 ) -> io::Result<()>
-    ensures { Writes out.old out.new result (outcome_bytes (read_answer outcome.answered row.now) outcome.examined) }
+    ensures { Writes out.old out.new result
+        (line user (answered (read_answer outcome.answered row.now) outcome.examined)) }
 {
+    out.write(&[Piece::Number(user as u128), Piece::Text(": ")])?;
     write_answer(out, outcome.answered, row)?;
-    let examined = Piece::Number(outcome.examined as u128);
-    out.write(&[Piece::Text(" looked at "), examined])
+    out.write(&[
+        Piece::Text(" looked at "),
+        Piece::Number(outcome.examined as u128),
+        Piece::Text("\n"),
+    ])
 }
 
 fn write_answer<W: Write>(

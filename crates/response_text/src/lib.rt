@@ -1,8 +1,9 @@
 //! What a user is told, as text: a line for each response, written to an output.
 #![tactic(auto)]
 
+ghost use Rattle.std.specs.Prelude.{◌++◌, codes, decimal};
 ghost use Rattle.output.specs.Output.{Writes};
-ghost use Rattle.response_text.specs.Lines.{line, response_bytes};
+ghost use Rattle.response_text.specs.Lines.{line};
 ghost use Rattle.store.specs.Served.{response_in};
 
 mod answers;
@@ -27,21 +28,22 @@ pub fn write_line<W: Write>(
 ) -> io::Result<()>
     ensures { Writes out.old out.new result (line user (response_in response row.now)) }
 {
-    out.write(&[Piece::Number(user as u128), Piece::Text(": ")])?;
-    write_response(out, response, row)?;
-    out.write(&[Piece::Text("\n")])
+    match response {
+        Ok(Reply::Done) => write_words(out, user, "done"),
+        Ok(Reply::Answered { outcome }) => write_outcome(out, user, outcome, row),
+        Err(refusal) => write_reason(out, user, refusal),
+    }
 }
 
-fn write_response<W: Write>(
-    out: &mut Output<W>,
-    response: Result<Reply, Refusal>,
-    row: &[u64],
-) -> io::Result<()>
-    ensures { Writes out.old out.new result (response_bytes (response_in response row.now)) }
+// A line of words that are always the same.
+#[inline(always)]
+pub(crate) fn write_words<W: Write>(out: &mut Output<W>, user: usize, words: &str) -> io::Result<()>
+    ensures { Writes out.old out.new result (decimal user ++ codes ": " ++ (words.now ++ codes "\n")) }
 {
-    match response {
-        Ok(Reply::Done) => out.write(&[Piece::Text("done")]),
-        Ok(Reply::Answered { outcome }) => write_outcome(out, outcome, row),
-        Err(refusal) => write_reason(out, refusal),
-    }
+    out.write(&[
+        Piece::Number(user as u128),
+        Piece::Text(": "),
+        Piece::Text(words),
+        Piece::Text("\n"),
+    ])
 }

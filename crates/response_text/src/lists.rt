@@ -1,6 +1,6 @@
 // Rows, and lists of rows.
 ghost use Rattle.std.specs.Prelude.{◌++◌, map, codes};
-ghost use Rattle.std.specs.List.{join_by};
+ghost use Rattle.std.specs.List.{flat_map, join_by};
 ghost use Rattle.output.specs.Output.{Writes};
 ghost use Rattle.query.specs.AnswerRows.{split};
 ghost use Rattle.response_text.specs.Lines.{row_bytes, list_bytes};
@@ -29,41 +29,52 @@ pub(crate) fn write_lists<W: Write>(
     Ok(())
 }
 
-// A list with the blank that separates it from the one before it.
-fn write_next<W: Write>(out: &mut Output<W>, blank: &str, list: &[[u64; 2]]) -> io::Result<()>
-    ensures { Writes out.old out.new result (blank.now ++ list_bytes (map pair_row list.now)) }
-{
-    out.write(&[Piece::Text(blank)])?;
-    write_list(out, list)
-}
-
 // Rows in brackets.
 pub(crate) fn write_list<W: Write>(out: &mut Output<W>, rows: &[[u64; 2]]) -> io::Result<()>
     ensures { Writes out.old out.new result (list_bytes (map pair_row rows.now)) }
 {
-    out.write(&[Piece::Text("[")])?;
-    write_rows(out, rows)?;
+    write_next(out, "", rows)
+}
+
+// A list with the blank that separates it from the one before it.
+fn write_next<W: Write>(out: &mut Output<W>, blank: &str, list: &[[u64; 2]]) -> io::Result<()>
+    ensures { Writes out.old out.new result (blank.now ++ list_bytes (map pair_row list.now)) }
+{
+    let [first, rest @ ..] = list else {
+        return out.write(&[Piece::Text(blank), Piece::Text("[]")]);
+    };
+    write_row(out, blank, "[", *first)?;
+    write_rows(out, rest)?;
     out.write(&[Piece::Text("]")])
 }
 
-// Rows, with a blank between each two.
+// Rows, each with a blank before it.
 fn write_rows<W: Write>(out: &mut Output<W>, rows: &[[u64; 2]]) -> io::Result<()>
-    ensures { Writes out.old out.new result (join_by row_bytes (codes " ") (map pair_row rows.now)) }
+    ensures { Writes out.old out.new result
+        (flat_map (λ row. codes " " ++ row_bytes row) (map pair_row rows.now)) }
 {
-    let mut blank = "";
     for row in rows {
-        write_row(out, blank, *row)?;
-        blank = " ";
+        write_row(out, "", " ", *row)?;
     }
     Ok(())
 }
 
-// A key and an amount, with the blank that separates them from those before.
-fn write_row<W: Write>(out: &mut Output<W>, blank: &str, row: [u64; 2]) -> io::Result<()>
-    ensures { Writes out.old out.new result (blank.now ++ row_bytes (pair_row row)) }
+// A key and an amount, with what stands before them.
+#[inline(always)]
+fn write_row<'a, W: Write>(
+    out: &mut Output<W>,
+    blank: &'a str,
+    opening: &'a str,
+    row: [u64; 2],
+) -> io::Result<()>
+    ensures { Writes out.old out.new result (blank.now ++ (opening.now ++ row_bytes (pair_row row))) }
 {
     let [key, amount] = row;
-    let key = Piece::Number(u128::from(key));
-    let amount = Piece::Number(u128::from(amount));
-    out.write(&[Piece::Text(blank), key, Piece::Text(":"), amount])
+    out.write(&[
+        Piece::Text(blank),
+        Piece::Text(opening),
+        Piece::Number(u128::from(key)),
+        Piece::Text(":"),
+        Piece::Number(u128::from(amount)),
+    ])
 }

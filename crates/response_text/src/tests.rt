@@ -1,7 +1,33 @@
 // Each kind of response, with its words worked out by hand.
+ghost use Rattle.std.specs.Prelude.{◌≡◌, ◌++◌, IfOk};
+ghost use Rattle.response_text.specs.Lines.{line};
+ghost use Rattle.store.specs.Served.{response_in};
+
 use super::*;
 use query::{AnswerSummary, Outcome};
 use std::test::Fail;
+
+// A caller goes on with a text of their own: the line stands behind what they had.
+fn with_line(
+    text: Vec<u8>,
+    user: usize,
+    response: Result<Reply, Refusal>,
+    row: &[u64],
+) -> io::Result<Vec<u8>>
+    ensures { IfOk result (λ new. new.items ≡ text.items ++ line user (response_in response row.now)) }
+{
+    let mut out = Output::new(text);
+    write_line(&mut out, user, response, row)?;
+    Ok(out.into_inner())
+}
+
+#[test]
+fn gives_the_text_back(rt: HostRuntime) -> Result<(), Fail> {
+    let text = with_line(Vec::new(rt.alloc()), 0, Ok(Reply::Done), &[])?;
+    let text = with_line(text, 9, Err(Refusal::NoUser { user: 9 }), &[])?;
+    assert!(rt; text.as_slice() == b"0: done\n9: not allowed\n".as_slice());
+    Ok(())
+}
 
 #[test]
 fn tells_what_is_done(rt: HostRuntime) -> Result<(), Fail> {

@@ -4,7 +4,7 @@
 use command_line::{Program, Stop};
 use output::Output;
 use policy::Policy;
-use std::io::{self, LineWriter};
+use std::io::{self, BufWriter, IsTerminal, LineWriter, Write};
 use std::process::ExitCode;
 
 const SHOW_POLICY: Program = Program {
@@ -39,10 +39,21 @@ fn form(words: &[String]) -> (bool, &[String]) {
 }
 
 fn show(rt: &HostRuntime, policy: &Policy, is_graph: bool) -> io::Result<()> {
-    let mut out = Output::new(LineWriter::new(rt.alloc(), rt.stdout())?);
-    if is_graph {
-        policy_text::write_graph(&mut out, policy)
+    let stdout = rt.stdout();
+    // At a terminal a line goes out as soon as it is made.
+    if stdout.is_terminal() {
+        show_to(LineWriter::new(rt.alloc(), stdout)?, policy, is_graph)
     } else {
-        policy_text::write_table(&mut out, policy)
+        show_to(BufWriter::new(rt.alloc(), stdout)?, policy, is_graph)
     }
+}
+
+fn show_to<W: Write + Drop>(writer: W, policy: &Policy, is_graph: bool) -> io::Result<()> {
+    let mut out = Output::new(writer);
+    if is_graph {
+        policy_text::write_graph(&mut out, policy)?;
+    } else {
+        policy_text::write_table(&mut out, policy)?;
+    }
+    out.flush()
 }

@@ -4,4 +4,4 @@ use Rattle.response_text.proofs.reasons.write_reason.Goals as goal
 
 pub returns-in-NoUser : goal.returns-in-NoUser
 returns-in-NoUser g c =
-    elim c.in-NoUser.is [ inl h ↦ rw h.1 c.write-in-NoUser.ensures | inr h ↦ rw h.1 c.write-in-NoUser.ensures ]
+    elim c.in-NoUser.is [ inl h ↦ rw h.1 c.write_words.ensures | inr h ↦ rw h.1 c.write_words.ensures ]

@@ -2,7 +2,7 @@
 use Rattle.std.proofs.Common.{◌+◌, ◌<◌, length, drop, arith, subst}
 use Rattle.output.specs.Output.{WritesAll, WritesPart, bytes_of}
 use Rattle.output.proofs.Chains.{all_then_all, all_then_part, part_then, passed_up, one_more, around}
-use Rattle.output.proofs.Output.write.Goals as goal
+use Rattle.output.proofs.Output.write_pieces.Goals as goal
 
 pub loop-piece-preserved : goal.loop-piece-preserved
 loop-piece-preserved g c =

@@ -99,37 +99,38 @@ fn request_in(kind: Kind, numbers: &[u64]) -> Request
     requires { length (fields kind) ≤ first_invalid 0 (fields kind) numbers.now }
     ensures { result ≡ request_in kind numbers.now }
 {
+    let user = numbers[1] as usize;
     match kind {
         Kind::Write => Request::Write {
-            user: numbers[1] as usize,
+            user,
             row: Row {
                 key: word(numbers, 2),
                 amount: word(numbers, 3),
             },
         },
         Kind::Delete => Request::Delete {
-            user: numbers[1] as usize,
+            user,
             key: word(numbers, 2),
         },
         Kind::Copy => Request::Copy {
-            user: numbers[1] as usize,
+            user,
             compartment: numbers[2],
             range: range_in(numbers, 3),
         },
         Kind::Query(QueryKind::Rows) => Request::Query {
-            user: numbers[1] as usize,
+            user,
             query: Query::Rows {
                 range: range_in(numbers, 3),
             },
         },
         Kind::Query(QueryKind::Total) => Request::Query {
-            user: numbers[1] as usize,
+            user,
             query: Query::Total {
                 range: range_in(numbers, 3),
             },
         },
         Kind::Query(QueryKind::Shared) => Request::Query {
-            user: numbers[1] as usize,
+            user,
             query: Query::Shared {
                 a: numbers[3],
                 b: numbers[4],

@@ -55,7 +55,28 @@ module _ (width bound : ℕ) (back : (n : ℕ) → n < bound → low_first (low_
       ap (λ (xs : List ℕ). numbers_each width (suc (length ns)) xs) all
       ∙ words_more width (suc (length ns)) (length ns) (low ++ tail) refl le ∙ cc
 
--- numbers within their places are read as they lie there, and take the bytes of the layout
+-- single numbers as they stand in front of the low bytes of others are read as they lie there, and take the bytes of
+-- the layout
+module _ (layout : Layout) (bound : ℕ) (back : (n : ℕ) → n < bound → low_first (low_bytes layout.width n) ≡ n)
+    (front others : List ℕ) (front_long : length front ≡ layout.single) (others_long : length others ≡ layout.wide)
+    (fit : AllLess bound others) where
+  pub read_lying : (rest : List ℕ) →
+      numbers_in layout ((front ++ bytes_each layout.width others) ++ rest) ≡ front ++ others
+  read_lying rest =
+      let tail : List ℕ = bytes_each layout.width others ++ rest in
+      let all : (front ++ bytes_each layout.width others) ++ rest ≡ front ++ tail = append_assoc front (bytes_each layout.width others) rest in
+      let singles : numbers_each 1 layout.single (front ++ tail) ≡ front =
+      words_take layout.single (front ++ tail) ∙ take_at front tail layout.single front_long in
+      let wides : numbers_each layout.width layout.wide tail ≡ others =
+      ap (λ (n : ℕ). numbers_each layout.width n tail) (sym others_long) ∙ words_written layout.width bound back others rest fit in
+      rw (all, singles, drop_at front tail (length front) refl, wides) refl
+
+  pub lying_long : length (front ++ bytes_each layout.width others) ≡ size layout
+  lying_long =
+      let wide = long_each layout.width others in
+      length-append front (bytes_each layout.width others) ∙ rw (front_long, wide, others_long) refl
+
+-- so are numbers within their places
 module _ (layout : Layout) (bound : ℕ) (back : (n : ℕ) → n < bound → low_first (low_bytes layout.width n) ≡ n)
     (ns : List ℕ) (long : length ns ≡ layout.single + layout.wide)
     (small : AllLess 256 (take layout.single ns)) (fit : AllLess bound (drop layout.single ns)) where
@@ -76,18 +97,9 @@ module _ (layout : Layout) (bound : ℕ) (back : (n : ℕ) → n < bound → low
 
   pub read_back : (rest : List ℕ) → numbers_in layout (bytes_by layout ns ++ rest) ≡ ns
   read_back rest =
-      let tail : List ℕ = bytes_each layout.width back_part ++ rest in
-      let all : bytes_by layout ns ++ rest ≡ front ++ tail =
-      ap (λ (xs : List ℕ). xs ++ rest) lies ∙ append_assoc front (bytes_each layout.width back_part) rest in
-      let singles : numbers_each 1 layout.single (front ++ tail) ≡ front =
-      words_take layout.single (front ++ tail) ∙ take_at front tail layout.single front_long in
-      let wides : numbers_each layout.width layout.wide tail ≡ back_part =
-      ap (λ (n : ℕ). numbers_each layout.width n tail) (sym back_long) ∙ words_written layout.width bound back back_part rest fit in
-      rw (all, singles, drop_at front tail (length front) refl, wides) (take-append-drop layout.single ns)
+      ap (λ (xs : List ℕ). numbers_in layout (xs ++ rest)) lies
+      ∙ read_lying layout bound back front back_part front_long back_long fit rest ∙ take-append-drop layout.single ns
 
   pub bytes_long : length (bytes_by layout ns) ≡ size layout
   bytes_long =
-      let wide = long_each layout.width back_part in
-      let b = back_long in
-      let f = front_long in
-      rw lies (length-append front (bytes_each layout.width back_part) ∙ rw (f, wide, b) refl)
+      ap (λ (xs : List ℕ). length xs) lies ∙ lying_long layout bound back front back_part front_long back_long fit

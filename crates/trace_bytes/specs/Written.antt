@@ -1,12 +1,12 @@
 -- Requests and policies as they are written into a trace, and that they are read again.
-use Rattle.std.specs.Prelude.{◌≡◌, ℕ, ◌+◌, ◌^◌, ◌<◌, ◌≤◌, List, ◌++◌, length, take, drop}
+use Rattle.std.specs.Prelude.{◌≡◌, ℕ, ◌+◌, ◌*◌, ◌^◌, ◌<◌, ◌≤◌, List, ◌∷◌, ◌++◌, length, take, drop}
 use Rattle.std.specs.List.{AllByRecursion, flat_map}
 use Rattle.policy.specs.Numbers.{users_in, compartments_in, user_at}
 use Rattle.request.specs.declared.Request.{Request}
 use Rattle.request.specs.Fields.{fields}
 use Rattle.request.specs.Format.{kind_of, numbers_of, WithinBounds}
 use Rattle.trace_bytes.specs.declared.item.Next.{Next}
-use Rattle.trace_bytes.specs.Bytes.{bytes_by, size}
+use Rattle.trace_bytes.specs.Bytes.{bytes_each, bytes_by, size}
 use Rattle.trace_bytes.specs.NextRequest.{next_in, request_layout}
 use Rattle.trace_bytes.specs.PolicyNumbers.{policy_layout, policy_of, policy_bytes}
 
@@ -42,6 +42,20 @@ pub record InPlaces (ns : List ℕ) : Type 0 where
   pub long : length ns ≡ user_at (users_in ns) + compartments_in ns
   pub single : AllLess 256 (take (user_at (users_in ns)) ns)
   pub wide : AllLess (2 ^ 16) (drop (user_at (users_in ns)) ns)
+
+-- a policy in bytes: the counts, the numbers of all users, and the capacities in two bytes each
+abbrev pub bytes_with : ℕ → ℕ → List ℕ → List ℕ → List ℕ
+bytes_with users compartments views capacities = users ∷ compartments ∷ (views ++ bytes_each 2 capacities)
+
+-- its numbers are read as they stand there, and behind its bytes the requests begin
+abbrev pub PolicyReads : Type 0
+PolicyReads =
+    (users compartments : ℕ) (views capacities rest : List ℕ) → users ≤ 32 → compartments ≤ 16 →
+    length views ≡ 18 * users → length capacities ≡ compartments → AllLess (2 ^ 16) capacities →
+    (policy_of (bytes_with users compartments views capacities ++ rest)
+    ≡ users ∷ compartments ∷ (views ++ capacities))
+    × (size (policy_layout (bytes_with users compartments views capacities ++ rest))
+    ≡ length (bytes_with users compartments views capacities))
 
 -- the numbers of a policy that is written are read again, and behind its bytes the requests begin
 abbrev pub PolicyRoundTrip : Type 0

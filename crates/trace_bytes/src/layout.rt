@@ -45,7 +45,7 @@ impl Layout {
     }
 
     // Fills `numbers` with those that lie in the bytes, as far as they are there, and says how many these are.
-    fn fill(self, bytes: &[u8], numbers: &mut [u64]) -> usize
+    pub(crate) fn fill(self, bytes: &[u8], numbers: &mut [u64]) -> usize
         requires { self.single + self.wide ≤ length numbers.old }
         ensures count { result ≡ length (numbers_in self bytes.now) }
         ensures within { result ≤ length numbers.old }
@@ -83,7 +83,7 @@ impl Layout {
 }
 
 // The first so many numbers, as far as they are there, and the others.
-fn first_part(numbers: &[u64], count: usize) -> (&[u64], &[u64])
+pub(crate) fn first_part(numbers: &[u64], count: usize) -> (&[u64], &[u64])
     ensures first { result.0.now ≡ take count numbers.now }
     ensures others { result.1.now ≡ drop count numbers.now }
 {

@@ -1,11 +1,11 @@
 //! A trace in bytes: its policy and its requests, read and written.
 #![tactic(auto)]
 
-ghost use Rattle.std.specs.Prelude.{◌≡◌, min, drop, IfOk};
+ghost use Rattle.std.specs.Prelude.{◌≡◌, ◌≤◌, ◌++◌, length, min, drop, IfOk};
 ghost use Rattle.policy.specs.Numbers.{policy_fault};
 ghost use Rattle.policy.specs.Read.{ReadsPolicy, why};
 ghost use Rattle.trace_bytes.specs.Bytes.{size};
-ghost use Rattle.trace_bytes.specs.PolicyNumbers.{policy_layout, policy_of};
+ghost use Rattle.trace_bytes.specs.PolicyNumbers.{policy_layout, policy_numbers, policy_of};
 ghost use Rattle.trace_bytes.specs.Written.{trace_bytes};
 
 mod item;
@@ -17,9 +17,8 @@ mod requests;
 
 use base::Refusal;
 pub use item::Next;
-use numbers::byte_at;
-pub use policies::CAPACITY;
-use policies::{MOST_NUMBERS, policy_layout, push_policy};
+pub use policies::{CAPACITY, single_numbers};
+use policies::{MOST_NUMBERS, layout_in, push_policy};
 use policy::Policy;
 use request::Request;
 pub use requests::next;
@@ -39,7 +38,7 @@ pub fn open(bytes: &[u8], most: u64) -> Result<Opening<'_>, Refusal>
     ensures reads { IfOk result (λ opening. ReadsPolicy (policy_of bytes.now) opening.policy) }
     ensures behind { IfOk result (λ opening. opening.requests.now ≡ drop (size (policy_layout bytes.now)) bytes.now) }
 {
-    let layout = policy_layout(byte_at(bytes, 0).into(), byte_at(bytes, 1).into());
+    let layout = layout_in(bytes);
     match Policy::read(layout.read(bytes, &mut [0; MOST_NUMBERS]), most) {
         Ok(policy) => Ok(Opening {
             policy,
@@ -47,6 +46,27 @@ pub fn open(bytes: &[u8], most: u64) -> Result<Opening<'_>, Refusal>
         }),
         Err(refusal) => Err(refusal),
     }
+}
+
+/// The numbers of the policy at the front of the bytes, as far as they are there, and how many these are.
+/// Where `numbers` has no place for the largest policy, nothing is written.
+pub fn policy_numbers(bytes: &[u8], numbers: &mut [u64]) -> usize
+    ensures within { result ≤ length numbers.old }
+    ensures count { result ≡ length (policy_numbers (length numbers.old) bytes.now) }
+    ensures after { numbers.new ≡ policy_numbers (length numbers.old) bytes.now ++ drop result numbers.old }
+{
+    if numbers.len() < MOST_NUMBERS {
+        return 0;
+    }
+    layout_in(bytes).fill(bytes, numbers)
+}
+
+/// How many bytes the policy takes: where the requests begin.
+pub fn policy_length(bytes: &[u8]) -> usize
+    ensures { result ≡ size (policy_layout bytes.now) }
+{
+    let policy = layout_in(bytes);
+    policy.size()
 }
 
 /// The bytes of a trace, in memory of their own: nothing else is written, also where memory runs out.
@@ -148,6 +168,20 @@ mod tests {
         );
     }
 
+    #[test]
+    fn reads_the_numbers_of_policies(rt: HostRuntime) {
+        let mut numbers = [5; 594];
+        assert_eq!(rt; policy_numbers(&[33, 1, 7], &mut numbers), 2);
+        let bytes = [
+            1, 1, 1, 0, 0, 0, 0, 0, 0, 0, 0, 0, 0, 0, 0, 0, 0, 0, 0, 0, 1, 2,
+        ];
+        assert_eq!(rt; policy_numbers(&bytes, &mut numbers), 21);
+        assert_eq!(rt; numbers[20], 513);
+        assert_eq!(rt; numbers[21], 5);
+        assert_eq!(rt; policy_length(&bytes), 22);
+        assert_eq!(rt; policy_numbers(&bytes, &mut numbers[0..593]), 0);
+    }
+
     // Why the policy is refused, if it is; what is behind one that is read is the 7.
     fn refused_policy(bytes: &[u8], most: u64) -> Option<Refusal> {
         match open(bytes, most) {
@@ -188,6 +222,19 @@ mod tests {
                 length: 6
             }
         );
+        Ok(())
+    }
+
+    #[test]
+    fn writes_numbers_without_a_place(rt: HostRuntime) -> Result<(), Fail> {
+        let bytes = write(rt.alloc(), &[33, 1, 7], &[])?;
+        assert!(rt; bytes.as_slice() == [33, 1, 7, 0].as_slice());
+        let bytes = write(rt.alloc(), &[0, 2, 64, 513, 9], &[])?;
+        assert!(rt; bytes.as_slice() == [0, 2, 64, 0, 1, 2, 9, 0].as_slice());
+        let bytes = write(rt.alloc(), &[0, 17, 5, 6], &[])?;
+        assert!(rt; bytes.as_slice() == [0, 17, 5, 0, 6, 0].as_slice());
+        let bytes = write(rt.alloc(), &[1, 17, 7], &[])?;
+        assert!(rt; bytes.as_slice() == [1, 17, 7].as_slice());
         Ok(())
     }
 }

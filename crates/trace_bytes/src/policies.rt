@@ -1,8 +1,9 @@
 // How a policy lies in bytes.
 ghost use Rattle.std.specs.Prelude.{◌≡◌, ◌+◌, ◌≤◌, ◌++◌, OnOk, slice_index};
-ghost use Rattle.trace_bytes.specs.PolicyNumbers.{layout_by_counts, policy_bytes};
+ghost use Rattle.trace_bytes.specs.PolicyNumbers.{layout_by_counts, policy_bytes, policy_layout, single_numbers};
 
-use crate::layout::Layout;
+use crate::layout::{Layout, first_part};
+use crate::numbers::{byte_at, push_numbers};
 use base::{COMPARTMENTS, USERS};
 use policy::{COUNTS, USER};
 use std::alloc::AllocError;
@@ -33,6 +34,14 @@ pub(crate) fn policy_layout(users: u64, compartments: u64) -> Layout
     }
 }
 
+// How the policy at the front of the bytes lies in them.
+pub(crate) fn layout_in(bytes: &[u8]) -> Layout
+    ensures value { result ≡ policy_layout bytes.now }
+    ensures few { result.single + result.wide ≤ 594 }
+{
+    policy_layout(byte_at(bytes, 0).into(), byte_at(bytes, 1).into())
+}
+
 // A missing number counts as 0.
 fn number_at(numbers: &[u64], place: usize) -> u64
     ensures { result ≡ slice_index numbers.now place }
@@ -40,9 +49,23 @@ fn number_at(numbers: &[u64], place: usize) -> u64
     numbers.get(place).copied().unwrap_or(0)
 }
 
-// Writes the numbers of a policy.
+/// How many numbers of a policy come before the capacities; a count of users that is out of bounds announces none.
+pub fn single_numbers(numbers: &[u64]) -> usize
+    ensures { result ≡ single_numbers numbers.now }
+{
+    let users = number_at(numbers, 0);
+    if users > USERS as u64 {
+        COUNTS
+    } else {
+        COUNTS + USER * users as usize
+    }
+}
+
+// Writes all the numbers of a policy, also those that its counts have no place for.
 pub(crate) fn push_policy(bytes: &mut Vec<u8>, numbers: &[u64]) -> Result<(), AllocError>
     ensures { OnOk result (bytes.new.items ≡ bytes.old.items ++ policy_bytes numbers.now) }
 {
-    policy_layout(number_at(numbers, 0), number_at(numbers, 1)).push(bytes, numbers)
+    let (single, capacities) = first_part(numbers, single_numbers(numbers));
+    push_numbers(bytes, 1, single)?;
+    push_numbers(bytes, 2, capacities)
 }

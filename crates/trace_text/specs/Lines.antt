@@ -3,7 +3,7 @@ use Rattle.std.specs.Prelude.{ℕ, zero, suc, ◌+◌, ◌-◌, ◌/◌, Bool, i
 use Rattle.std.specs.Option.{ok_or}
 use Rattle.std.specs.Str.{bytes_eq}
 use Rattle.rows.specs.declared.KeyRange.{KeyRange}
-use Rattle.policy.specs.Numbers.{users_in, compartments_in, user_at}
+use Rattle.policy.specs.Numbers.{compartments_in}
 use Rattle.policy.specs.Rules.{has}
 use Rattle.query.specs.declared.Query.{Query}
 use Rattle.query.specs.declared.Query.TheVariants as query
@@ -14,6 +14,7 @@ use Rattle.request.specs.declared.kinds.Kind.TheVariants as kind
 use Rattle.request.specs.declared.kinds.QueryKind.{QueryKind}
 use Rattle.request.specs.declared.kinds.QueryKind.TheVariants.{Rows, Total, Shared}
 use Rattle.request.specs.declared.Request.TheVariants as request
+pub use Rattle.trace_bytes.specs.PolicyNumbers.{single_numbers}
 use Rattle.trace_text.specs.Names.{spelling, kind_by_word}
 use Rattle.trace_text.specs.Words.{word_at, number_of}
 use Rattle.trace_text.specs.declared.fault.Reason.{Reason}
@@ -147,10 +148,6 @@ capacity_said compartment line =
     and_then (expect_name name.Capacity line 0) (λ _.
     and_then (next_at compartment line 1) (λ _.
     and_then (number_within 1 64 line 2) (λ capacity. and_then (ends line 3) (λ _. Ok capacity))))
-
--- how many numbers come before the capacities; a count that is out of bounds announces nothing
-abbrev pub single_numbers : List ℕ → ℕ
-single_numbers ns = if nat_lt 32 (users_in ns) then 2 else user_at (users_in ns)
 
 -- what comes next behind so many numbers, two counts among them
 abbrev pub behind_counts : ℕ → ℕ → ℕ → Stage

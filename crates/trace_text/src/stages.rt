@@ -1,9 +1,9 @@
 // What comes next in a text, by the numbers of the policy so far.
-ghost use Rattle.trace_text.specs.Lines.{behind_counts, single_numbers, stage_of};
+ghost use Rattle.trace_text.specs.Lines.{behind_counts, stage_of};
 ghost use Rattle.std.specs.Prelude.{◌≡◌, ◌≤◌};
 
-use base::USERS;
 use policy::{COUNTS, USER};
+use trace_bytes::single_numbers;
 
 // What comes next: the numbers so far say where in the policy a line stands.
 #[derive(Clone, Copy)]
@@ -13,19 +13,6 @@ pub(crate) enum Stage {
     User { user: usize, compartments: u64 },
     Capacity { compartment: usize },
     Requests,
-}
-
-// How many numbers come before the capacities.
-fn single_numbers(numbers: &[u64]) -> usize
-    ensures { result ≡ single_numbers numbers.now }
-{
-    // A missing number counts as 0.
-    let users = numbers.first().copied().unwrap_or(0);
-    if users > USERS as u64 {
-        COUNTS
-    } else {
-        COUNTS + USER * users as usize
-    }
 }
 
 pub(crate) fn stage_of(numbers: &[u64]) -> Stage

@@ -50,8 +50,10 @@ impl<'a> Storage<'a> {
 fn lower(a: Option<usize>, b: Option<usize>) -> Option<usize>
     ensures { result ≡ lower a b }
 {
+    // Most often there is no second, and then nothing is compared.
     match (a, b) {
+        (a, None) => a,
+        (None, b) => b,
         (Some(a), Some(b)) => Some(a.min(b)),
-        (a, b) => a.or(b),
     }
 }

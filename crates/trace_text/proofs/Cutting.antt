@@ -1,13 +1,14 @@
 -- The pieces of a line, one on.
-use Rattle.std.proofs.Common.{◌≡◌, ℕ, ◌+◌, ◌-◌, ◌<◌, ◌≤◌, Bool, true, false, cond, not, eqb, ltb, List, [], ◌∷◌, length, get_or, take, drop, filter, refl, sym, ap, ◌∙◌, subst, inl, inr, arith, Option, Some, None, unwrap_or}
+use Rattle.std.proofs.Common.{◌≡◌, ℕ, suc, ◌+◌, ◌<◌, ◌≤◌, Bool, true, false, cond, not, eqb, ltb, List, [], ◌∷◌, length, get_or, take, drop, filter, find, refl, sym, ap, ◌∙◌, inl, inr, arith, Option, Some, None, unwrap_or}
 use Rattle.std.proofs.lemmas.Bool.{cases_Bool, cases_lt, lt-ltb, le-ltb, ne_eqb}
-use Rattle.std.proofs.lemmas.List.{drop-drop, drop_all, drop_more, take_all, take_rest, length-take, length-drop}
+use Rattle.std.proofs.lemmas.List.{drop-drop, drop_all, drop_more, take_all, length-take}
 use Rattle.std.proofs.lemmas.List.Elements.{All-from_get_or}
 use Rattle.std.proofs.lemmas.List.Folds.{length-prefix_len}
 use Rattle.std.proofs.lemmas.List.Splits.{slice_split-cons_yes, slice_split_first, slice_split_none}
 use Rattle.std.proofs.lemmas.List.Sums.{fails_before_first, passes_at_first}
-use Rattle.std.specs.List.{position_or_len, slice_split}
-use Rattle.trace_text.specs.Words.{blank, pieces}
+use Rattle.std.specs.List.{onto_first, position_or_len, prefix_len, slice_get, slice_split, take_while}
+use Rattle.trace_text.specs.Lines.{is_silent}
+use Rattle.trace_text.specs.Words.{begins_comment, blank, pieces}
 
 abbrev pub black : ℕ → Bool
 black byte = not (blank byte)
@@ -96,3 +97,51 @@ one_on xs ys start end s is e =
     let some : 0 < position_or_len blank ys = omega (arith, more) in
     sym (trimmed xs) ∙ ap (λ (n : ℕ). pieces (drop n xs)) (sym low.1) ∙ ap pieces (sym is) ∙ first_piece ys some
     ∙ ap (λ (n : ℕ). take n ys ∷ pieces (drop n ys)) (sym stop)
+
+-- of pieces: the first word is missing
+abbrev silent_of : List (List ℕ) → Bool
+silent_of ps = eqb (length (unwrap_or (slice_get (take_while (λ p. not (begins_comment p)) ps) 0) [])) 0
+
+one_taken : (p : List ℕ) (ps : List (List ℕ)) (n k : ℕ) → k ≡ suc n → take k (p ∷ ps) ≡ p ∷ take n ps
+one_taken p ps n k e = rw e refl
+
+begun : (x : ℕ) (piece : List ℕ) (ps : List (List ℕ)) → silent_of ((x ∷ piece) ∷ ps) ≡ eqb x 35
+begun x piece ps =
+    let n : ℕ = prefix_len (λ p. not (begins_comment p)) ps in
+    elim (cases_Bool (eqb x 35)) [
+      | inl t ↦ rw t refl
+      | inr t ↦ rw (t, one_taken (x ∷ piece) ps n (1 + n) (omega arith)) (ne_eqb (length (x ∷ piece)) 0 (λ z. omega arith))
+    ]
+
+begun_full : (x : ℕ) (piece : List ℕ) (ps : List (List ℕ)) → silent_of (filter full ((x ∷ piece) ∷ ps)) ≡ eqb x 35
+begun_full x piece ps = rw (ne_eqb (length (x ∷ piece)) 0 (λ z. omega arith)) (begun x piece (filter full ps))
+
+begun_first : (x : ℕ) (ps : List (List ℕ)) → silent_of (filter full (onto_first x ps)) ≡ eqb x 35
+begun_first x [] = begun_full x [] []
+begun_first x (piece ∷ ps) = begun_full x piece ps
+
+after_blank : (x : ℕ) (xs : List ℕ) → blank x ≡ true → is_silent (x ∷ xs) ≡ is_silent xs
+after_blank x xs t = ap (λ (b : Bool). silent_of (filter full (cond b ([] ∷ slice_split blank xs) (onto_first x (slice_split blank xs))))) t
+
+after_front : (x : ℕ) (xs : List ℕ) → blank x ≡ false → is_silent (x ∷ xs) ≡ eqb x 35
+after_front x xs t =
+    ap (λ (b : Bool). silent_of (filter full (cond b ([] ∷ slice_split blank xs) (onto_first x (slice_split blank xs))))) t
+    ∙ begun_first x (slice_split blank xs)
+
+-- a line is silent where no byte, or `#`, comes first behind blanks
+pub silent_none : (xs : List ℕ) → find black xs ≡ None → is_silent xs ≡ true
+silent_none [] e = refl
+silent_none (x ∷ xs) e = elim (cases_Bool (blank x)) [
+  | inl t ↦ after_blank x xs t ∙ silent_none xs (rw t at e)
+  | inr t ↦ let e = rw t at e in absurd cc
+]
+
+pub silent_some : (xs : List ℕ) (y : ℕ) → find black xs ≡ Some y → is_silent xs ≡ eqb y 35
+silent_some [] y e = absurd cc
+silent_some (x ∷ xs) y e = elim (cases_Bool (blank x)) [
+  | inl t ↦ after_blank x xs t ∙ silent_some xs y (rw t at e)
+  | inr t ↦
+      let e = rw t at e in
+      let same : x ≡ y = cc in
+      after_front x xs t ∙ ap (λ (z : ℕ). eqb z 35) same
+]

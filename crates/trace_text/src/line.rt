@@ -8,7 +8,7 @@ ghost use Rattle.trace_text.specs.Words.{begins_comment, number_of, word_at};
 
 use crate::fault::Reason;
 use crate::names::{Name, kind_by_word};
-use crate::pieces::Pieces;
+use crate::pieces::{Pieces, is_blank};
 use request::Kind;
 
 // Any larger number counts as this one, which is out of all bounds.
@@ -51,6 +51,8 @@ pub(crate) struct Line<'a> {
 }
 
 impl<'a> Line<'a> {
+    // Never inlined: in a function of its own the loop over blanks is short.
+    #[inline(never)]
     fn word(self, place: u8) -> &'a [u8]
         ensures { result.now ≡ word_at self.entry.bytes.now place }
     {
@@ -77,7 +79,10 @@ impl<'a> Line<'a> {
     pub(crate) fn is_silent(self) -> bool
         ensures { result ≡ is_silent self.entry.bytes.now }
     {
-        self.word(0).is_empty()
+        let Some(first) = self.bytes.iter().find(|byte| !is_blank(**byte)) else {
+            return true;
+        };
+        *first == b'#'
     }
 
     pub(crate) fn is_named(self, place: u8, name: Name) -> bool

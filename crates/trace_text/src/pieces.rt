@@ -4,7 +4,7 @@ ghost use Rattle.std.specs.Iterator.{YieldsFirstRef, item_count};
 ghost use Rattle.trace_text.specs.Words.{blank, pieces};
 
 // Spaces, tabs and carriage returns; `is_ascii_whitespace` takes line and form feeds too.
-fn is_blank(byte: u8) -> bool
+pub(crate) fn is_blank(byte: u8) -> bool
     ensures { result ≡ blank byte }
 {
     matches!(byte, b' ' | b'\t' | b'\r')

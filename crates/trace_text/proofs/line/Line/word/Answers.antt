@@ -1,5 +1,5 @@
 -- The word is the one at the place among the pieces up to a comment.
-use Rattle.std.proofs.Common.{◌≡◌, ◌==◌, List, ℕ, [], not, length, rules, tests, Bor, Some, None, Option, option_map, slice_get, unwrap_or, refl, ap, ◌∙◌}
+use Rattle.std.proofs.Common.{◌≡◌, List, ℕ, [], not, rules, tests, Bor, Some, None, Option, option_map, slice_get, unwrap_or, refl, ap, ◌∙◌}
 use Rattle.std.proofs.lemmas.Iterator.Consumers.{nth_from_yields_List, YieldsList-from_first, YieldsList-at}
 use Rattle.std.proofs.lemmas.Iterator.Search.{YieldsList-from_take_while}
 use Rattle.trace_text.specs.Words.{begins_comment, pieces, words}

@@ -1,5 +1,5 @@
 -- The blanks in front are passed over, and the piece ends at the next blank.
-use Rattle.std.proofs.Common.{◌≡◌, ◌==◌, List, ℕ, [], not, ◌∷◌, ◌-◌, length, take, drop, unwrap_or, rules, tests, arith, Bor, Some, None, Option, refl, ap, sym, subst, ◌∙◌}
+use Rattle.std.proofs.Common.{◌≡◌, List, ℕ, ◌∷◌, ◌-◌, length, take, drop, unwrap_or, rules, tests, arith, Option, ap, sym, subst, ◌∙◌}
 use Rattle.std.proofs.lemmas.Iterator.{YieldsList-from_slice}
 use Rattle.std.proofs.lemmas.Iterator.Search.{position_from_yields_List}
 use Rattle.std.proofs.lemmas.List.{take_rest}

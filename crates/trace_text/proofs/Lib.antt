@@ -3,4 +3,5 @@ pub mod Oks
 pub mod Viewing
 pub mod Turns
 pub mod Good
+pub mod Cutting
 pub mod Back

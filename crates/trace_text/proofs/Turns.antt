@@ -36,6 +36,9 @@ module _ (lines : List (List ℕ)) (n i : ℕ) (line : List ℕ)
   pair : ◌≡◌ {A = ℕ × List ℕ} (i, line) (n, get_or lines n line)
   pair = turn.1 ∙ get_or-enumerate_from 0 lines n (i, line) there ∙ ap (λ (m : ℕ). (m, get_or lines n line)) (omega arith)
 
+  pub place_is : i + 1 ≡ n + 1
+  place_is = ap (λ (p : ℕ × List ℕ). p.0 + 1) pair
+
   -- what the lines from there on say
   said_on : (said : Content) → and_then (at_line (i + 1) (line_said said line)) (λ more. lines_said (n + 1 + 1) more (drop (n + 1) lines)) ≡ lines_said (n + 1) said (drop n lines)
   said_on said =
@@ -53,8 +56,8 @@ module _ (lines : List (List ℕ)) (n i : ℕ) (line : List ℕ)
   line_refused error.OutOfMemory said all told is = tt
 
 -- behind the last line
-pub said_all : (lines : List (List ℕ)) (n last : ℕ) (said : Content) → last ≡ length lines →
+pub said_all : (lines : List (List ℕ)) (n last : ℕ) (said : Content) → last ≡ n →
     n ≡ length (enumerate_from 0 lines) → at_line last (check_end said) ≡ lines_said (n + 1) said (drop n lines)
 said_all lines n last said counted end =
-    ap (λ (k : ℕ). at_line k (check_end said)) (omega (arith, length-enumerate_from 0 lines))
+    ap (λ (k : ℕ). at_line k (check_end said)) (omega (arith, counted))
     ∙ sym (at_drop_all (λ ls. lines_said (n + 1) said ls) lines n (omega (arith, length-enumerate_from 0 lines)))

@@ -10,6 +10,7 @@ pub mod laws;
 mod line;
 mod names;
 mod opening;
+mod pieces;
 mod reading;
 mod requests;
 mod stages;

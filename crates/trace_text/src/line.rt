@@ -4,21 +4,15 @@ ghost use Rattle.std.specs.Str.{bytes_eq};
 ghost use Rattle.request.specs.Decoded.{and_then};
 ghost use Rattle.trace_text.specs.Lines.{ends, key_at, kind_at, expect_name, next_at, number_at, some_word, is_silent, number_within};
 ghost use Rattle.trace_text.specs.Names.{spelling};
-ghost use Rattle.trace_text.specs.Words.{begins_comment, blank, number_of, word_at};
+ghost use Rattle.trace_text.specs.Words.{begins_comment, number_of, word_at};
 
 use crate::fault::Reason;
 use crate::names::{Name, kind_by_word};
+use crate::pieces::{Pieces, is_blank};
 use request::Kind;
 
 // Any larger number counts as this one, which is out of all bounds.
 const TOO_LARGE: u64 = 0x1_0000_0000;
-
-// Spaces, tabs and carriage returns; `is_ascii_whitespace` takes line and form feeds too.
-fn is_blank(byte: u8) -> bool
-    ensures { result ≡ blank byte }
-{
-    matches!(byte, b' ' | b'\t' | b'\r')
-}
 
 // The decimal number that a word is, which isn't empty.
 // By hand, since `str::parse` takes a `+` in front, and a number too large is none to it, where here it is out of
@@ -57,12 +51,12 @@ pub(crate) struct Line<'a> {
 }
 
 impl<'a> Line<'a> {
+    // Never inlined: in a function of its own the loop over blanks is short.
+    #[inline(never)]
     fn word(self, place: u8) -> &'a [u8]
         ensures { result.now ≡ word_at self.entry.bytes.now place }
     {
-        self.bytes
-            .split(|byte| is_blank(*byte))
-            .filter(|piece| !piece.is_empty())
+        Pieces { rest: self.bytes }
             .take_while(|piece| !begins_comment(piece))
             .nth(usize::from(place))
             .unwrap_or(&[])
@@ -85,7 +79,10 @@ impl<'a> Line<'a> {
     pub(crate) fn is_silent(self) -> bool
         ensures { result ≡ is_silent self.entry.bytes.now }
     {
-        self.word(0).is_empty()
+        let Some(first) = self.bytes.iter().find(|byte| !is_blank(**byte)) else {
+            return true;
+        };
+        *first == b'#'
     }
 
     pub(crate) fn is_named(self, place: u8, name: Name) -> bool

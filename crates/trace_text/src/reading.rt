@@ -2,7 +2,7 @@
 ghost use Rattle.trace_text.specs.Lines.{and_then};
 ghost use Rattle.trace_text.specs.Said.{ReadsAs, join, entry_content, at_line, line_said, lines_said, content_of, check_end};
 ghost use Rattle.trace_text.specs.Words.{lines};
-ghost use Rattle.std.specs.Prelude.{◌≡◌, length, Ok, OnOk};
+ghost use Rattle.std.specs.Prelude.{◌≡◌, Ok, OnOk};
 
 use crate::Trace;
 use crate::entries::{Entry, entry_in};
@@ -12,13 +12,6 @@ use crate::stages::{Stage, stage_of};
 use base::COMPARTMENTS;
 use policy::Contract;
 use std::alloc::AllocError;
-
-// A line more than there are line feeds.
-fn line_count(text: &[u8]) -> usize
-    ensures { result ≡ length (lines text.now) }
-{
-    text.split(|byte| *byte == b'\n').count()
-}
 
 impl Trace {
     // Adds what a user's line says: behind the view lies 0, up to a place for each compartment.
@@ -79,9 +72,11 @@ impl Trace {
     pub(crate) fn read_lines(&mut self, text: &[u8]) -> Result<(), ReadError>
         ensures { ReadsAs (λ _. content_of self.new) result (lines_said 1 (content_of self.old) (lines text.now)) }
     {
+        let mut last = 0;
         for (i, bytes) in text.split(|byte| *byte == b'\n').enumerate() {
-            self.read_line(i + 1, Line { bytes })?;
+            last = i + 1;
+            self.read_line(last, Line { bytes })?;
         }
-        Ok(self.check_end(line_count(text))?)
+        Ok(self.check_end(last)?)
     }
 }

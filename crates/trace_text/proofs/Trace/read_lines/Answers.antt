@@ -6,7 +6,7 @@ use Rattle.std.proofs.lemmas.Result.{err_from_is_err_and}
 use Rattle.std.specs.List.{enumerate_from}
 use Rattle.trace_text.specs.Said.{content_of}
 use Rattle.trace_text.specs.Words.{lines}
-use Rattle.trace_text.proofs.Turns.{lines_yielded, line_read, line_refused, said_all}
+use Rattle.trace_text.proofs.Turns.{lines_yielded, place_is, line_read, line_refused, said_all}
 use Rattle.trace_text.proofs.Trace.read_lines.Given as given
 use Rattle.trace_text.proofs.Trace.read_lines.Goals as goal
 use Rattle.trace_text.proofs.Trace.read_lines.Goals.{After-into_iter-i-iterator, In-Some, In-None}
@@ -34,23 +34,25 @@ all_read c =
 pub loop-i-preserved : goal.loop-i-preserved
 loop-i-preserved c =
     let n : ℕ = length c.loop-i.yielded in
-    rw length-append
-    (line_read (lines c.args.text.now) n c.in-Some.i c.in-Some.bytes.now (turn (goal.at.loop-i-preserved c).In-Some) (content_of c.loop-i.self) (content_of c.read_line.new.self) c.in_ok-read_line.ensures
-    ∙ c.loop-i.invariant)
+    let one = turn (goal.at.loop-i-preserved c).In-Some in
+    rw length-append (
+      line_read (lines c.args.text.now) n c.in-Some.i c.in-Some.bytes.now one (content_of c.loop-i.self) (content_of c.read_line.new.self) c.in_ok-read_line.ensures ∙ c.loop-i.invariant.0,
+      place_is (lines c.args.text.now) n c.in-Some.i c.in-Some.bytes.now one,
+    )
 
 pub returns-in_err-read_line : goal.returns-in_err-read_line
 returns-in_err-read_line c =
     let p = err_from_is_err_and c.from_residual.result c.from_residual.ensures.1 in
     rw (p.1, p.2)
-    (line_refused (lines c.args.text.now) (length c.loop-i.yielded) c.in-Some.i c.in-Some.bytes.now (turn (goal.at.returns-in_err-read_line c).In-Some) c.in_err-read_line.field-0.0 (content_of c.loop-i.self) _ c.in_err-read_line.ensures c.loop-i.invariant)
+    (line_refused (lines c.args.text.now) (length c.loop-i.yielded) c.in-Some.i c.in-Some.bytes.now (turn (goal.at.returns-in_err-read_line c).In-Some) c.in_err-read_line.field-0.0 (content_of c.loop-i.self) _ c.in_err-read_line.ensures c.loop-i.invariant.0)
 
 pub returns-in_err-check_end : goal.returns-in_err-check_end
 returns-in_err-check_end c =
     let p = err_from_is_err_and c.from_residual-in_err-check_end.result c.from_residual-in_err-check_end.ensures.1 in
-    let all = said_all (lines c.args.text.now) (length c.loop-i.yielded) _ (content_of c.loop-i.self) c.line_count.ensures (all_read (goal.at.returns-in_err-check_end c).In-None) in
-    rw (p.1, p.2) (c.in_err-check_end.ensures ∙ all ∙ c.loop-i.invariant)
+    let all = said_all (lines c.args.text.now) (length c.loop-i.yielded) _ (content_of c.loop-i.self) c.loop-i.invariant.1 (all_read (goal.at.returns-in_err-check_end c).In-None) in
+    rw (p.1, p.2) (c.in_err-check_end.ensures ∙ all ∙ c.loop-i.invariant.0)
 
 pub returns : goal.returns
 returns c =
-    let all = said_all (lines c.args.text.now) (length c.loop-i.yielded) _ (content_of c.loop-i.self) c.line_count.ensures (all_read (goal.at.returns c).In-None) in
-    c.in_ok-check_end.ensures ∙ all ∙ c.loop-i.invariant
+    let all = said_all (lines c.args.text.now) (length c.loop-i.yielded) _ (content_of c.loop-i.self) c.loop-i.invariant.1 (all_read (goal.at.returns c).In-None) in
+    c.in_ok-check_end.ensures ∙ all ∙ c.loop-i.invariant.0

@@ -1,9 +1,9 @@
 -- The word is the one at the place among the pieces up to a comment.
-use Rattle.std.proofs.Common.{◌≡◌, ◌==◌, List, ℕ, [], not, length, rules, tests, Bor, Some, None, Option, option_map, slice_get, unwrap_or, refl, ap, ◌∙◌}
-use Rattle.std.proofs.lemmas.Iterator.Consumers.{nth_from_yields_List, YieldsList-from_filter, YieldsList-at}
+use Rattle.std.proofs.Common.{◌≡◌, List, ℕ, [], not, rules, tests, Bor, Some, None, Option, option_map, slice_get, unwrap_or, refl, ap, ◌∙◌}
+use Rattle.std.proofs.lemmas.Iterator.Consumers.{nth_from_yields_List, YieldsList-from_first, YieldsList-at}
 use Rattle.std.proofs.lemmas.Iterator.Search.{YieldsList-from_take_while}
-use Rattle.std.proofs.lemmas.Iterator.Splits.{YieldsList-from_slice_split}
-use Rattle.trace_text.specs.Words.{begins_comment, blank, words}
+use Rattle.trace_text.specs.Words.{begins_comment, pieces, words}
+use Rattle.trace_text.specs.declared.pieces.Pieces.{Pieces}
 use Rattle.trace_text.proofs.line.Line.word.Goals as goal
 
 now_of : (o : Option (Bor (List ℕ))) (d : Bor (List ℕ)) → (unwrap_or o d).now ≡ unwrap_or (option_map (λ w. w.now) o) d.now
@@ -15,10 +15,7 @@ returns c =
     let found : option_map (λ (w : Bor (List ℕ)). w.now) c.nth.result ≡ slice_get (words c.args.self.bytes.now) c.from.result =
     nth_from_yields_List c.nth.result c.nth.new.self c.from.result c.nth.ensures.ran
     (YieldsList-from_take_while _ (λ w. not (begins_comment w))
-    (YieldsList-at c.take_while.ensures.source
-    (YieldsList-from_filter _ (λ w. not (length w == 0))
-    (YieldsList-at c.filter.ensures.source (YieldsList-from_slice_split _ blank c.args.self.bytes.now c.split.ensures.rest c.split.ensures.done c.split.ensures.closure (λ x b q k. search (rules, tests))))
-    c.filter.ensures.closure (λ x b q k. search (rules, tests))))
+    (YieldsList-at c.take_while.ensures.source (YieldsList-from_first (λ w. w.now) (λ (s : Pieces). pieces s.rest.now) (pieces c.args.self.bytes.now) refl))
     c.take_while.ensures.closure c.take_while.ensures.done (λ x b q k. search (rules, tests))) in
     ap (λ (w : Bor (List ℕ)). w.now) c.unwrap_or.ensures ∙ now_of c.nth.result _ ∙ ap (λ (o : Option (List ℕ)). unwrap_or o []) found
     ∙ ap (λ (n : ℕ). unwrap_or (slice_get (words c.args.self.bytes.now) n) []) c.from.ensures

@@ -4,7 +4,7 @@ ghost use Rattle.memory_query.specs.AskResult.{cached_outcome, cached_told, stor
 
 use crate::inquiry::CheckedQuery;
 use crate::storage::Storage;
-use base::Refusal;
+use base::{ArrayList, Refusal};
 use cache::CachedAnswer;
 use query::{AnswerSummary, Outcome};
 
@@ -19,7 +19,8 @@ impl Storage<'_> {
         ensures after { row.new ≡ (storage_work self.now row.old inquiry.now).row }
     {
         let length = row.len();
-        let parts = self.lend(&inquiry.scope);
+        let mut parts = ArrayList::new(&[][..]);
+        self.lend(&inquiry.scope, &mut parts);
         let Some(outcome) = query::answer(inquiry.query, parts.as_slice(), row) else {
             return Err(Refusal::ShortRow { length });
         };

@@ -1,5 +1,5 @@
 // What memory holds of several compartments: versions, the lowest number out of bounds, and rows that are lent.
-ghost use Rattle.std.specs.Prelude.{◌≡◌, map};
+ghost use Rattle.std.specs.Prelude.{◌≡◌, [], map};
 ghost use Rattle.policy.specs.Views.{view_of};
 ghost use Rattle.query.specs.Looks.{scope_compartments};
 ghost use Rattle.memory_query.specs.MemoryParts.{lower, lowest_fault, versions_in, parts_in};
@@ -34,15 +34,15 @@ impl<'a> Storage<'a> {
     }
 
     // Lends the rows of each compartment that is looked at, and of no other.
-    pub(crate) fn lend(&self, scope: &Scope) -> ArrayList<&'a [u64], COMPARTMENTS>
-        ensures { map (λ x. x.now) result.items
+    // The list is the caller's: one that is given back would be copied on its way.
+    pub(crate) fn lend(&self, scope: &Scope, parts: &mut ArrayList<&'a [u64], COMPARTMENTS>)
+        requires { parts.old.items ≡ [] }
+        ensures { map (λ x. x.now) parts.new.items
             ≡ parts_in self.now.policy.now self.now.memory.now (scope_compartments scope.now) }
     {
-        let mut parts = ArrayList::new(&[][..]);
         for compartment in scope.compartments() {
             parts.push(self.rows_of(*compartment)).unwrap();
         }
-        parts
     }
 }
 

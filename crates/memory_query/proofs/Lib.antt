@@ -6,4 +6,3 @@ pub mod Resting
 pub mod Staying
 pub mod Lengths
 pub mod Listed
-pub mod Faults

@@ -5,7 +5,7 @@ ghost use Rattle.std.specs.Prelude.{◌≡◌, ◌+◌, ◌≤◌, length};
 ghost use Rattle.policy.specs.Access.{memory_length};
 ghost use Rattle.memory_query.specs.AskResult.{inquiry_of, check_told, inquiry_result, ask_result};
 
-use base::Refusal;
+use base::{COMPARTMENTS, Refusal};
 use inquiry::CheckedQuery;
 use policy::Policy;
 use query::{Outcome, Query, Scope};
@@ -36,9 +36,10 @@ pub fn ask(
         return Err(Refusal::NoUser { user });
     };
     let scope = Scope::of(contract, query);
-    let survey = Storage { policy, memory }.survey(contract);
-    check(scope.needed(policy), row.len(), survey.fault)?;
-    let versions = survey.versions.as_slice();
+    let mut versions = [0; COMPARTMENTS];
+    let fault = Storage { policy, memory }.survey(contract, &mut versions);
+    check(scope.needed(policy), row.len(), fault)?;
+    let versions = &versions[..contract.view().len()];
     let inquiry = CheckedQuery {
         query,
         scope,

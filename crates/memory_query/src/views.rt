@@ -1,5 +1,5 @@
 // What memory holds of several compartments: versions, the lowest number out of bounds, and rows that are lent.
-ghost use Rattle.std.specs.Prelude.{◌≡◌, [], map};
+ghost use Rattle.std.specs.Prelude.{◌≡◌, [], map, length, take};
 ghost use Rattle.policy.specs.Views.{view_of};
 ghost use Rattle.query.specs.Looks.{scope_compartments};
 ghost use Rattle.memory_query.specs.MemoryParts.{lower, lowest_fault, versions_in, parts_in};
@@ -9,32 +9,30 @@ use base::{ArrayList, COMPARTMENTS};
 use policy::Contract;
 use query::Scope;
 
-// The version of each compartment that a user sees, and the lowest place in them that is out of bounds.
-#[derive(Drop)]
-pub(crate) struct Survey {
-    pub(crate) versions: ArrayList<u64, COMPARTMENTS>,
-    pub(crate) fault: Option<usize>,
-}
-
 impl<'a> Storage<'a> {
-    // One pass over all that a contract lets its user see.
-    pub(crate) fn survey(&self, contract: &Contract) -> Survey
-        ensures versions { result.versions.items
+    // The version of each compartment that a contract lets its user see, and the lowest place in them that is out of
+    // bounds, in one pass. The array is the caller's, since one that is given back would be copied on its way; and it is
+    // no list, which would store its length anew with each version.
+    pub(crate) fn survey(
+        &self,
+        contract: &Contract,
+        versions: &mut [u64; COMPARTMENTS],
+    ) -> Option<usize>
+        ensures versions { take (length (view_of contract.now)) versions.new
             ≡ versions_in self.now.policy.now self.now.memory.now (view_of contract.now) }
-        ensures fault { result.fault ≡ lowest_fault self.now.policy.now self.now.memory.now (view_of contract.now) }
+        ensures fault { result ≡ lowest_fault self.now.policy.now self.now.memory.now (view_of contract.now) }
     {
-        let mut versions = ArrayList::new(0);
         let mut fault = None;
-        for compartment in contract.view() {
+        for (i, compartment) in contract.view().iter().enumerate() {
             let (version, place) = self.version_and_fault(*compartment);
-            versions.push(version).unwrap();
+            versions[i] = version;
             fault = lower(fault, place);
         }
-        Survey { versions, fault }
+        fault
     }
 
     // Lends the rows of each compartment that is looked at, and of no other.
-    // The list is the caller's: one that is given back would be copied on its way.
+    // The list is the caller's, as the array of `survey` is.
     pub(crate) fn lend(&self, scope: &Scope, parts: &mut ArrayList<&'a [u64], COMPARTMENTS>)
         requires { parts.old.items ≡ [] }
         ensures { map (λ x. x.now) parts.new.items

@@ -1,4 +1,4 @@
--- Versions and parts that are put into a list one after the other.
+-- What is put into a list one after the other, and rows that are lent so.
 use Rattle.std.proofs.Common.{◌≡◌, ℕ, ◌+◌, ◌<◌, ◌≤◌, List, [], ◌∷◌, ◌++◌, length, map, take, get_or, sym, ap, ◌∙◌, arith}
 use Rattle.std.proofs.lemmas.List.{map_more, map-append, take-map, length-map, length-take-le, take_all}
 
